@@ -1,0 +1,8 @@
+-- Laws that every room cites: one set for each shape of a loop. Assumes nothing.
+pub mod Bools
+pub mod Facts
+pub mod Every
+pub mod Counting
+pub mod Highest
+pub mod Each
+pub mod Joined

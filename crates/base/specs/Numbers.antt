@@ -1,0 +1,18 @@
+-- Tests on the numbers below a bound: all of them, how many, the highest. Assumes nothing.
+use mathlib.Core.Bool.{Bool, true, false, cond, _&&_}
+use Prim.Native.Nat.{ℕ, zero, suc, _+_}
+
+-- every number below n passes
+unfoldable pub every : ℕ → (ℕ → Bool) → Bool
+every zero p = true
+every (suc n) p = every n p && p n
+
+-- how many numbers below n pass
+unfoldable pub count : ℕ → (ℕ → Bool) → ℕ
+count zero p = 0
+count (suc n) p = cond (p n) 1 0 + count n p
+
+-- the highest number from 1 to k that passes, 0 if none does
+unfoldable pub highest : (ℕ → Bool) → ℕ → ℕ
+highest p zero = 0
+highest p (suc k) = cond (p (suc k)) (suc k) (highest p k)

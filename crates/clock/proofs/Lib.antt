@@ -1,0 +1,3 @@
+-- Laws of times that other rooms cite. Assumes nothing.
+pub mod Order
+pub mod Ticks

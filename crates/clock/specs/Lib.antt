@@ -1,0 +1,3 @@
+-- What the clock's functions promise. Assumes nothing.
+pub mod Times
+pub mod Ranges

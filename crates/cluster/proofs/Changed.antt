@@ -1,0 +1,23 @@
+-- One server replaced and the others unchanged; all servers changed at once. Assumes nothing.
+use mathlib.Core.Path.{_≡_, refl, ap}
+use mathlib.Core.Logic.{_≢_}
+use Prim.Native.Nat.{ℕ, _<_}
+use lib.ListN.{length}
+use lib.Seq.{getD-set-same, getD-set-other}
+use Rattle.base.proofs.Each.{each-at}
+use Rattle.base.specs.Lists.{each}
+use Rattle.cluster.specs.declared.Server.{Server}
+use Rattle.cluster.specs.declared.Cluster.{Cluster}
+use Rattle.cluster.specs.Servers.{pastServer, serverAt, withServer}
+
+module _ (c : Cluster) (a : ℕ) (s : Server) where
+  pub replaced-here : a < length (c .servers) → serverAt (withServer c a s) a ≡ s
+  replaced-here h = getD-set-same (c .servers) a s pastServer h
+
+  pub replaced-others : (i : ℕ) → i ≢ a → serverAt (withServer c a s) i ≡ serverAt c i
+  replaced-others i ne = getD-set-other (c .servers) a i s pastServer ne
+
+-- every server is what the change makes of it
+pub changed-at : (f : ℕ → Server → Server) (c : Cluster) (i : ℕ) → i < length (c .servers)
+    → serverAt (record { count = c .count; servers = each f (c .servers) }) i ≡ f i (serverAt c i)
+changed-at f c i h = each-at f (c .servers) i pastServer h

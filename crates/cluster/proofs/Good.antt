@@ -1,0 +1,133 @@
+-- A well-formed record as facts: one field for each clause of 01, and back. Assumes nothing.
+use mathlib.Core.Path.{_≡_, refl, ap, sym, _∙_, subst}
+use mathlib.Core.Bool.{Bool, true, false, cond, not, _&&_}
+use mathlib.Core.Logic.{⊎-elim}
+use Prim.Native.Nat.{ℕ, _<_, _≤_}
+use native.Mathlib.Omega.{arith}
+use lib.Dec.{eqb, ltb, leb}
+use lib.ListN.{length, getD, replicate, getD-replicate}
+use lib.Seq.{ext-getD}
+use borrow.Author.Tests.{leb-true, le-leb, eqb-true, eq-eqb, lt-ltb, le-ltb, not-true}
+use Rattle.base.specs.Numbers.{every}
+use Rattle.base.proofs.Bools.{and-both, and-left, and-right}
+use Rattle.base.proofs.Every.{every-at, every-all}
+use Rattle.base.proofs.Facts.{lt-or-le}
+use Rattle.clock.specs.Times.{zeroTime, isBefore, sameTime}
+use Rattle.clock.proofs.Order.{sameTime-eq, sameTime-refl}
+use Rattle.log.specs.declared.Log.{Log}
+use Rattle.log.specs.Entries.{zeroEntry, appliedTime}
+use Rattle.log.specs.Logs.{logLimit, live, emptyLog}
+use Rattle.log.specs.Order.{restZero, logOk}
+use Rattle.log.proofs.Orderly.{LogGood, log-good, good-log, rest-is, is-rest}
+use Rattle.log.proofs.Tidy.{tidy-empty}
+use Rattle.cluster.specs.declared.Server.{Server}
+use Rattle.cluster.specs.declared.Cluster.{Cluster}
+use Rattle.cluster.specs.Servers.{fewestServers, mostServers, zeroServer, serverAt}
+use Rattle.cluster.specs.WellFormed.{numbersOk, countedOk, zeroOk, serverOk, wellFormed}
+use Rattle.cluster.specs.Ranges.{FitsServer, Fits}
+
+-- ---- a counted server
+
+pub record ServerGood (s : Server) : Type 0 where
+  -- its length is at most 32, slots past it are zero, its entries' terms, keys, values and times are in order and range
+  pub log : LogGood (s .term) (s .log)
+  pub last-time : isBefore (s .time) (appliedTime (live (s .log))) ≡ false
+  pub commit-point : s .commit ≤ s .log .len
+  pub wall-clock : 1 ≤ s .wall
+  pub primary-term : s .primary ≡ true → 1 ≤ s .term
+
+not-is-true : (b : Bool) → b ≡ false → not b ≡ true
+not-is-true b e = rw e
+
+pub server-good : (s : Server) → length (s .log .entries) ≡ logLimit → countedOk s ≡ true → ServerGood s
+unfolding countedOk numbersOk
+server-good s slots h =
+    let h2 = and-right (logOk (s .term) (s .log)) _ h in
+    let n = and-right (not (isBefore (s .time) (appliedTime (live (s .log))))) _ h2 in
+    let n2 = and-right (leb (s .commit) (s .log .len)) _ n in
+    record {
+      log = log-good slots (and-left _ _ h);
+      last-time = not-true _ (and-left _ _ h2);
+      commit-point = leb-true (s .commit) (s .log .len) (and-left _ _ n);
+      wall-clock = leb-true 1 (s .wall) (and-left _ _ n2);
+      primary-term = λ p. leb-true 1 (s .term) (rw p at (and-right (leb 1 (s .wall)) _ n2));
+    }
+
+pub good-server : (s : Server) → ServerGood s → countedOk s ≡ true
+unfolding countedOk numbersOk
+good-server s g =
+    and-both _ _ (good-log (g .log))
+    (and-both _ _ (not-is-true _ (g .last-time))
+    (and-both _ _ (le-leb (s .commit) (s .log .len) (g .commit-point))
+    (and-both _ _ (le-leb 1 (s .wall) (g .wall-clock)) (role (s .primary) refl))))
+  where
+    role : (b : Bool) → s .primary ≡ b → cond b (leb 1 (s .term)) true ≡ true
+    role true e = le-leb 1 (s .term) (g .primary-term e)
+    role false e = refl
+
+-- ---- a server past the count
+
+empty-log-is : (g : Log) → length (g .entries) ≡ logLimit → g .len ≡ 0 → restZero g 0 ≡ true → g ≡ emptyLog
+empty-log-is g slots z r =
+    let e : g .entries ≡ replicate logLimit zeroEntry =
+    ext-getD zeroEntry (g .entries) (replicate logLimit zeroEntry) slots
+    (λ i h. rest-is g 0 slots r i (omega arith) ∙ sym (getD-replicate logLimit i zeroEntry zeroEntry (omega (arith, slots)))) in
+    λ i. record { entries = e i; len = z i }
+
+pub zero-is : (s : Server) → length (s .log .entries) ≡ logLimit → zeroOk s ≡ true → s ≡ zeroServer
+unfolding zeroOk
+zero-is s slots h =
+    let h2 = and-right (eqb (s .log .len) 0) _ h in
+    let h3 = and-right (restZero (s .log) 0) _ h2 in
+    let h4 = and-right (eqb (s .term) 0) _ h3 in
+    let h5 = and-right (not (s .primary)) _ h4 in
+    let h6 = and-right (eqb (s .commit) 0) _ h5 in
+    let l = empty-log-is (s .log) slots (eqb-true (s .log .len) 0 (and-left _ _ h)) (and-left _ _ h2) in
+    let t = eqb-true (s .term) 0 (and-left _ _ h3) in
+    let p = not-true (s .primary) (and-left _ _ h4) in
+    let k = eqb-true (s .commit) 0 (and-left _ _ h5) in
+    let w = eqb-true (s .wall) 0 (and-left _ _ h6) in
+    let m = sameTime-eq (s .time) zeroTime (and-right (eqb (s .wall) 0) _ h6) in
+    λ i. record { log = l i; term = t i; primary = p i; commit = k i; wall = w i; time = m i }
+
+pub is-zero : (s : Server) → s ≡ zeroServer → zeroOk s ≡ true
+unfolding zeroOk
+is-zero s e = ap zeroOk e ∙ rw (is-rest emptyLog 0 (λ i h. tidy-empty .rest i h), sameTime-refl zeroTime)
+
+-- ---- the record
+
+pub record Good (c : Cluster) : Type 0 where
+  pub at-least-two : fewestServers ≤ c .count
+  pub at-most-seven : c .count ≤ mostServers
+  pub counted : (i : ℕ) → i < c .count → ServerGood (serverAt c i)
+  pub past : (i : ℕ) → c .count ≤ i → i < mostServers → serverAt c i ≡ zeroServer
+
+pub good : (c : Cluster) → Fits c → wellFormed c ≡ true → Good c
+unfolding wellFormed serverOk
+good c f h =
+    let h2 = and-right (leb fewestServers (c .count)) _ h in
+    let seven = leb-true (c .count) mostServers (and-left _ _ h2) in
+    record {
+      at-least-two = leb-true fewestServers (c .count) (and-left _ _ h);
+      at-most-seven = seven;
+      counted = λ i l. server-good (serverAt c i) (f .each i (omega arith) .log .slots)
+          (rw (lt-ltb i (c .count) l) at (each h2 i (omega arith)));
+      past = λ i l m. zero-is (serverAt c i) (f .each i m .log .slots) (rw (le-ltb i (c .count) l) at (each h2 i m));
+    }
+  where
+    each : (leb (c .count) mostServers && every mostServers (λ i. cond (ltb i (c .count)) (countedOk (serverAt c i)) (zeroOk (serverAt c i)))) ≡ true
+        → (i : ℕ) → i < mostServers → cond (ltb i (c .count)) (countedOk (serverAt c i)) (zeroOk (serverAt c i)) ≡ true
+    each h i l = every-at _ mostServers i (and-right (leb (c .count) mostServers) _ h) l
+
+pub well-formed : (c : Cluster) → Good c → wellFormed c ≡ true
+unfolding wellFormed serverOk
+well-formed c g =
+    and-both _ _ (le-leb fewestServers (c .count) (g .at-least-two))
+    (and-both _ _ (le-leb (c .count) mostServers (g .at-most-seven))
+    (every-all _ mostServers (λ i m. ⊎-elim (λ l. in-place i l) (λ l. past-place i l m) (lt-or-le i (c .count)))))
+  where
+    in-place : (i : ℕ) → i < c .count → cond (ltb i (c .count)) (countedOk (serverAt c i)) (zeroOk (serverAt c i)) ≡ true
+    in-place i l = rw (lt-ltb i (c .count) l) (good-server (serverAt c i) (g .counted i l))
+
+    past-place : (i : ℕ) → c .count ≤ i → i < mostServers → cond (ltb i (c .count)) (countedOk (serverAt c i)) (zeroOk (serverAt c i)) ≡ true
+    past-place i l m = rw (le-ltb i (c .count) l) (is-zero (serverAt c i) (g .past i l m))

@@ -1,0 +1,5 @@
+-- Laws of records and sets that other rooms cite. Assumes nothing.
+pub mod Masks
+pub mod Changed
+pub mod Good
+pub mod Fresh

@@ -1,0 +1,38 @@
+-- `cluster::numbers_ok` meets its contract. Assumes nothing.
+use Rattle.cluster.specs.declared.Server.{Server}
+use borrow.Author.Tests.{le-leb}
+use lib.Dec.{leb}
+use Prim.Native.Nat.{_≤_}
+use mathlib.Core.Bool.{true}
+use mathlib.Core.Path.{_≡_}
+use Rattle.cluster.specs.WellFormed.{numbersOk}
+use Rattle.base.proofs.Facts.{tests}
+use borrow.Author.Needs.{needs}
+use Rattle.cluster.proofs.numbers_ok.Statement.{statement}
+use Rattle.cluster.proofs.numbers_ok.Tie as tie
+
+-- HELPERS
+-- what is left to test at a primary
+at-primary : (s : Server) → s .commit ≤ s .log .len → 1 ≤ s .wall → s .primary ≡ true → leb 1 (s .term) ≡ numbersOk s
+unfolding numbersOk
+at-primary s h k p = rw (le-leb (s .commit) (s .log .len) h, le-leb 1 (s .wall) k, p)
+
+-- END
+
+returns : tie.Need-returns
+unfolding numbersOk
+returns c = search (needs, tests)
+
+returns-2 : tie.Need-returns-2
+unfolding numbersOk
+returns-2 c = search (needs, tests)
+
+returns-3 : tie.Need-returns-3
+returns-3 c = at-primary _ (search needs) (search needs) (c .before .if3 .taken)
+
+returns-4 : tie.Need-returns-4
+unfolding numbersOk
+returns-4 c = search (needs, tests, c .if3 .left)
+
+pub numbers-ok-spec : {M : Type 1} → statement M
+numbers-ok-spec = tie.close (tie.spec returns returns-2 returns-3 returns-4)

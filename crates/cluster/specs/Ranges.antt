@@ -1,0 +1,22 @@
+-- What the types of a server and of a record give, apart from being well formed. Assumes nothing.
+use mathlib.Core.Path.{_≡_}
+use Prim.Native.Nat.{ℕ, _<_, _≤_, _^_}
+use lib.ListN.{length}
+use Rattle.clock.specs.Times.{limit}
+use Rattle.clock.specs.Ranges.{FitsTime}
+use Rattle.log.specs.Ranges.{FitsLog}
+use Rattle.cluster.specs.declared.Server.{Server}
+use Rattle.cluster.specs.declared.Cluster.{Cluster}
+use Rattle.cluster.specs.Servers.{mostServers, serverAt}
+
+pub record FitsServer (s : Server) : Type 0 where
+  pub log : FitsLog (s .log)
+  pub term : s .term ≤ limit
+  pub commit : s .commit < 2 ^ 64
+  pub wall : s .wall ≤ limit
+  pub time : FitsTime (s .time)
+
+pub record Fits (c : Cluster) : Type 0 where
+  pub count : c .count < 2 ^ 64
+  pub slots : length (c .servers) ≡ mostServers
+  pub each : (i : ℕ) → i < mostServers → FitsServer (serverAt c i)

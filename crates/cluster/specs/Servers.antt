@@ -1,0 +1,64 @@
+-- The fixed records of 01, and records with one server or all servers changed. Assumes nothing.
+use mathlib.Core.List.{List, []}
+use mathlib.Core.Bool.{Bool, true, false, cond}
+use Prim.Native.Nat.{ℕ}
+use lib.Dec.{eqb, ltb}
+use lib.ListN.{getD, set, replicate}
+use Rattle.base.specs.Lists.{each}
+use Rattle.clock.specs.Times.{zeroTime}
+use Rattle.log.specs.Logs.{emptyLog}
+use Rattle.cluster.specs.declared.Server.{Server}
+use Rattle.cluster.specs.declared.Cluster.{Cluster}
+use Rattle.cluster.specs.Sets.{member}
+
+-- a cluster has 2 to 7 servers
+abbrev pub fewestServers : ℕ
+fewestServers = 2
+
+abbrev pub mostServers : ℕ
+mostServers = 7
+
+abbrev pub zeroServer : Server
+zeroServer = record { log = emptyLog; term = 0; primary = false; commit = 0; wall = 0; time = zeroTime }
+
+-- secondary, term 0, log empty, commit point 0, wall clock 1, cluster time (0,0)
+abbrev pub freshServer : Server
+freshServer = record { log = emptyLog; term = 0; primary = false; commit = 0; wall = 1; time = zeroTime }
+
+-- what the language takes for an element past an array's end
+abbrev pub pastServer : Server
+pastServer = record { log = record { entries = []; len = 0 }; term = 0; primary = false; commit = 0; wall = 0; time = zeroTime }
+
+abbrev pub serverAt : Cluster → ℕ → Server
+serverAt c i = getD (c .servers) i pastServer
+
+-- the record before the first start: all zero
+abbrev pub zeroCluster : Cluster
+zeroCluster = record { count = 0; servers = replicate mostServers zeroServer }
+
+-- the fresh cluster of n servers: each of the first n is fresh, the others zero
+unfoldable pub startedOf : ℕ → ℕ → Server → Server
+startedOf n i s = cond (ltb i n) freshServer s
+
+abbrev pub freshCluster : ℕ → Cluster
+freshCluster n = record { count = n; servers = each (startedOf n) (zeroCluster .servers) }
+
+-- server i replaced
+abbrev pub withServer : Cluster → ℕ → Server → Cluster
+withServer c i s = record { count = c .count; servers = set (c .servers) i s }
+
+-- server i after an election of a by the set m into the term t: every member has the term; a primary, other members secondary
+unfoldable pub votedOf : ℕ → ℕ → ℕ → ℕ → Server → Server
+votedOf a m t i s =
+    cond (member m i) (record { log = s .log; term = t; primary = eqb i a; commit = s .commit; wall = s .wall; time = s .time }) s
+
+abbrev pub electedAll : Cluster → ℕ → ℕ → ℕ → Cluster
+electedAll c a m t = record { count = c .count; servers = each (votedOf a m t) (c .servers) }
+
+-- server i with the wall clock w, where it is one of the first n
+unfoldable pub clockedOf : ℕ → ℕ → ℕ → Server → Server
+clockedOf n w i s =
+    cond (ltb i n) (record { log = s .log; term = s .term; primary = s .primary; commit = s .commit; wall = w; time = s .time }) s
+
+abbrev pub clocksSet : Cluster → ℕ → Cluster
+clocksSet c w = record { count = c .count; servers = each (clockedOf (c .count) w) (c .servers) }

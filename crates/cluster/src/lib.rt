@@ -1,0 +1,244 @@
+// Servers side by side in one record, by value: the fixed records, one server replaced, all servers changed, and which records are well formed.
+ghost use mathlib.Core.Path.{_≡_};
+ghost use Rattle.cluster.specs.Servers.{zeroServer, freshServer, zeroCluster, startedOf, freshCluster, withServer, votedOf, electedAll, clockedOf, clocksSet};
+ghost use Rattle.cluster.specs.WellFormed.{numbersOk, countedOk, zeroOk, serverOk, wellFormed};
+use clock::Time;
+use log::Log;
+
+pub mod sets;
+
+pub struct Server {
+    pub log: Log,
+    pub term: u16,
+    pub primary: bool,
+    pub commit: usize,
+    pub wall: u16,
+    pub time: Time,
+}
+
+pub struct Cluster {
+    pub count: usize,
+    pub servers: [Server; MOST_SERVERS],
+}
+
+pub const FEWEST_SERVERS: usize = 2;
+
+pub const MOST_SERVERS: usize = 7;
+
+pub const ZERO_SERVER: Server = Server {
+    log: log::EMPTY_LOG,
+    term: 0,
+    primary: false,
+    commit: 0,
+    wall: 0,
+    time: clock::ZERO_TIME,
+};
+
+pub const FRESH_SERVER: Server = Server {
+    log: log::EMPTY_LOG,
+    term: 0,
+    primary: false,
+    commit: 0,
+    wall: 1,
+    time: clock::ZERO_TIME,
+};
+
+pub const ZERO_CLUSTER: Cluster = Cluster {
+    count: 0,
+    servers: [ZERO_SERVER; MOST_SERVERS],
+};
+
+pub fn zero_server() -> Server
+    ensures { λ r. ⌜ r ≡ zeroServer ⌝ }
+{
+    ZERO_SERVER
+}
+
+pub fn fresh_server() -> Server
+    ensures { λ r. ⌜ r ≡ freshServer ⌝ }
+{
+    FRESH_SERVER
+}
+
+// The record before the first start.
+pub fn zero_cluster() -> Cluster
+    ensures { λ r. ⌜ r ≡ zeroCluster ⌝ }
+{
+    ZERO_CLUSTER
+}
+
+// Server i of a fresh cluster of n: fresh, or as it was past the count.
+pub fn started(s: Server, i: usize, n: usize) -> Server
+    ensures { λ r. ⌜ r ≡ startedOf n i s ⌝ }
+{
+    if i < n { FRESH_SERVER } else { s }
+}
+
+// The fresh cluster of n servers.
+pub fn fresh_cluster(n: usize) -> Cluster
+    ensures { λ r. ⌜ r ≡ freshCluster n ⌝ }
+{
+    let mut c = ZERO_CLUSTER;
+    c.count = n;
+    let mut i = 0;
+    while i < MOST_SERVERS {
+        let s = c.servers[i];
+        let t = started(s, i, n);
+        c.servers[i] = t;
+        i += 1;
+    }
+    c
+}
+
+// The record with server i replaced; past the servers nothing is.
+pub fn with_server(c: Cluster, i: usize, s: Server) -> Cluster
+    ensures { λ r. ⌜ r ≡ withServer c i s ⌝ }
+{
+    if MOST_SERVERS <= i {
+        return c;
+    }
+    let mut d = c;
+    d.servers[i] = s;
+    d
+}
+
+// Server i after an election of a by the set: a member has the new term, and only a is primary.
+pub fn voted(s: Server, i: usize, a: usize, set: u8, term: u16) -> Server
+    ensures { λ r. ⌜ r ≡ votedOf a set term i s ⌝ }
+{
+    if sets::is_member(set, i) {
+        Server {
+            term: term,
+            primary: i == a,
+            ..s
+        }
+    } else {
+        s
+    }
+}
+
+// The record after an election of a by the set into the term.
+pub fn elect_all(c: Cluster, a: usize, set: u8, term: u16) -> Cluster
+    ensures { λ r. ⌜ r ≡ electedAll c a set term ⌝ }
+{
+    let mut d = c;
+    let mut i = 0;
+    while i < MOST_SERVERS {
+        let s = d.servers[i];
+        let t = voted(s, i, a, set, term);
+        d.servers[i] = t;
+        i += 1;
+    }
+    d
+}
+
+// Server i with this wall clock, where it is one of the first count.
+pub fn clocked(s: Server, i: usize, count: usize, wall: u16) -> Server
+    ensures { λ r. ⌜ r ≡ clockedOf count wall i s ⌝ }
+{
+    if i < count {
+        Server { wall: wall, ..s }
+    } else {
+        s
+    }
+}
+
+// The record with every counted server's wall clock set.
+pub fn set_clocks(c: Cluster, wall: u16) -> Cluster
+    ensures { λ r. ⌜ r ≡ clocksSet c wall ⌝ }
+{
+    let mut d = c;
+    let count = c.count;
+    let mut i = 0;
+    while i < MOST_SERVERS {
+        let s = d.servers[i];
+        let t = clocked(s, i, count, wall);
+        d.servers[i] = t;
+        i += 1;
+    }
+    d
+}
+
+// Whether a counted server's commit point, wall clock and role are in range.
+pub fn numbers_ok(s: Server) -> bool
+    ensures { λ r. ⌜ r ≡ numbersOk s ⌝ }
+{
+    if s.log.len < s.commit {
+        return false;
+    }
+    if s.wall < 1 {
+        return false;
+    }
+    if s.primary { 1 <= s.term } else { true }
+}
+
+// Whether a counted server may stand in a well-formed record.
+pub fn counted_ok(s: Server) -> bool
+    ensures { λ r. ⌜ r ≡ countedOk s ⌝ }
+{
+    let g = s.log;
+    if !log::log_ok(g, s.term) {
+        return false;
+    }
+    let last = log::applied_time(g);
+    let now = s.time;
+    if clock::is_before(now, last) {
+        return false;
+    }
+    numbers_ok(s)
+}
+
+// Whether a server is zero, secondary.
+pub fn zero_ok(s: Server) -> bool
+    ensures { λ r. ⌜ r ≡ zeroOk s ⌝ }
+{
+    let g = s.log;
+    if g.len != 0 {
+        return false;
+    }
+    if !log::rest_zero(g, 0) {
+        return false;
+    }
+    if s.term != 0 {
+        return false;
+    }
+    if s.primary {
+        return false;
+    }
+    if s.commit != 0 {
+        return false;
+    }
+    if s.wall != 0 {
+        return false;
+    }
+    let t = s.time;
+    clock::same_time(t, clock::ZERO_TIME)
+}
+
+pub fn server_ok(s: Server, counted: bool) -> bool
+    ensures { λ r. ⌜ r ≡ serverOk counted s ⌝ }
+{
+    if counted { counted_ok(s) } else { zero_ok(s) }
+}
+
+// Whether a record is well formed; total on any record at all.
+pub fn well_formed(c: Cluster) -> bool
+    ensures { λ r. ⌜ r ≡ wellFormed c ⌝ }
+{
+    let count = c.count;
+    if count < FEWEST_SERVERS {
+        return false;
+    }
+    if MOST_SERVERS < count {
+        return false;
+    }
+    let mut i = 0;
+    while i < MOST_SERVERS {
+        let s = c.servers[i];
+        if !server_ok(s, i < count) {
+            return false;
+        }
+        i += 1;
+    }
+    true
+}

@@ -1,0 +1,119 @@
+-- A log that a well-formed record may hold, as facts: one for each clause of 01, and back. Assumes nothing.
+use mathlib.Core.Path.{_≡_, refl, ap, sym, _∙_}
+use mathlib.Core.List.{List}
+use mathlib.Core.Bool.{Bool, true, false, _&&_, _||_}
+use mathlib.Core.Logic.{_⊎_, inl, inr, ⊎-elim}
+use Prim.Native.Nat.{ℕ, zero, suc, _<_, _≤_}
+use native.Mathlib.Omega.{arith}
+use lib.Dec.{eqb, ltb, leb}
+use lib.ListN.{length, getD, List·getD-eq-default}
+use borrow.Author.Tests.{leb-true, le-leb, eqb-true, ltb-true, lt-ltb, le-ltb}
+use Rattle.base.specs.Numbers.{every}
+use Rattle.base.proofs.Bools.{and-both, and-left, and-right, or-left, or-right, or-cases}
+use Rattle.base.proofs.Every.{every-at, every-all}
+use Rattle.base.proofs.Facts.{lt-or-le}
+use Rattle.clock.specs.Times.{isBefore}
+use Rattle.log.specs.declared.Entry.{Entry}
+use Rattle.log.specs.declared.Log.{Log}
+use Rattle.log.specs.Entries.{zeroEntry, sameEntry, entryAt}
+use Rattle.log.specs.Logs.{logLimit, live}
+use Rattle.log.specs.Order.{highestKey, entryOk, follows, placeOk, inOrder, restZero, logOk}
+use Rattle.log.proofs.Equal.{sameEntry-eq, sameEntry-refl}
+use Rattle.log.proofs.Tidy.{Tidy}
+
+-- ---- one entry
+
+pub record EntryGood (term : ℕ) (e : Entry) : Type 0 where
+  pub from-one : 1 ≤ e .term
+  pub not-above : e .term ≤ term
+  pub key : e .key ≤ highestKey
+  pub value : 1 ≤ e .value
+
+pub entry-good : {term : ℕ} {e : Entry} → entryOk term e ≡ true → EntryGood term e
+unfolding entryOk
+entry-good {term} {e} h =
+    let h2 = and-right (leb 1 (e .term)) _ h in
+    let h3 = and-right (leb (e .term) term) _ h2 in
+    record {
+      from-one = leb-true 1 (e .term) (and-left _ _ h);
+      not-above = leb-true (e .term) term (and-left _ _ h2);
+      key = leb-true (e .key) highestKey (and-left _ _ h3);
+      value = leb-true 1 (e .value) (and-right (leb (e .key) highestKey) _ h3);
+    }
+
+pub good-entry : {term : ℕ} {e : Entry} → EntryGood term e → entryOk term e ≡ true
+unfolding entryOk
+good-entry {term} {e} g =
+    and-both _ _ (le-leb 1 (e .term) (g .from-one))
+    (and-both _ _ (le-leb (e .term) term (g .not-above)) (and-both _ _ (le-leb (e .key) highestKey (g .key)) (le-leb 1 (e .value) (g .value))))
+
+-- ---- the entries of a log
+
+pub record Orderly (term : ℕ) (es : List Entry) : Type 0 where
+  pub each : (n : ℕ) → 1 ≤ n → n ≤ length es → EntryGood term (entryAt es n)
+  pub terms : (n : ℕ) → 1 ≤ n → n < length es → entryAt es n .term ≤ entryAt es (suc n) .term
+  pub times : (n : ℕ) → 1 ≤ n → n < length es → isBefore (entryAt es n .time) (entryAt es (suc n) .time) ≡ true
+
+pub orderly : {term : ℕ} {es : List Entry} → inOrder term es ≡ true → Orderly term es
+unfolding inOrder placeOk follows
+orderly {term} {es} h = record { each = one; terms = up; times = rise }
+  where
+    place : (i : ℕ) → i < length es → (entryOk term (entryAt es (suc i)) && (eqb i 0 || (leb (entryAt es i .term) (entryAt es (suc i) .term) && isBefore (entryAt es i .time) (entryAt es (suc i) .time)))) ≡ true
+    place i l = every-at _ (length es) i h l
+
+    one : (n : ℕ) → 1 ≤ n → n ≤ length es → EntryGood term (entryAt es n)
+    one zero p l = absurd (omega arith)
+    one (suc i) p l = entry-good (and-left _ _ (place i l))
+
+    after : (n : ℕ) → 1 ≤ n → n < length es → (leb (entryAt es n .term) (entryAt es (suc n) .term) && isBefore (entryAt es n .time) (entryAt es (suc n) .time)) ≡ true
+    after n p l =
+        ⊎-elim (λ z. absurd (omega (arith, eqb-true n 0 z))) (λ f. f) (or-cases (eqb n 0) _ (and-right (entryOk term (entryAt es (suc n))) _ (place n l)))
+
+    up : (n : ℕ) → 1 ≤ n → n < length es → entryAt es n .term ≤ entryAt es (suc n) .term
+    up n p l = leb-true _ _ (and-left _ _ (after n p l))
+
+    rise : (n : ℕ) → 1 ≤ n → n < length es → isBefore (entryAt es n .time) (entryAt es (suc n) .time) ≡ true
+    rise n p l = and-right (leb (entryAt es n .term) (entryAt es (suc n) .term)) _ (after n p l)
+
+pub in-order : {term : ℕ} {es : List Entry} → Orderly term es → inOrder term es ≡ true
+unfolding inOrder placeOk follows
+in-order {term} {es} o = every-all _ (length es) (λ i l. and-both _ _ (good-entry (o .each (suc i) (omega arith) l)) (place i l))
+  where
+    place : (i : ℕ) → i < length es → (eqb i 0 || (leb (entryAt es i .term) (entryAt es (suc i) .term) && isBefore (entryAt es i .time) (entryAt es (suc i) .time))) ≡ true
+    place zero l = refl
+    place (suc i) l = or-right (eqb (suc i) 0) _ (and-both _ _ (le-leb _ _ (o .terms (suc i) (omega arith) l)) (o .times (suc i) (omega arith) l))
+
+-- ---- the slots
+
+pub rest-is : (g : Log) (k : ℕ) → length (g .entries) ≡ logLimit → restZero g k ≡ true → (i : ℕ) → k ≤ i → getD (g .entries) i zeroEntry ≡ zeroEntry
+unfolding restZero
+rest-is g k s h i l =
+    ⊎-elim
+    (λ m. ⊎-elim (λ z. absurd (omega (arith, ltb-true i k z))) (sameEntry-eq _ zeroEntry) (or-cases (ltb i k) _ (every-at _ logLimit i h m)))
+    (λ m. List·getD-eq-default (g .entries) zeroEntry (omega arith)) (lt-or-le i logLimit)
+
+pub is-rest : (g : Log) (k : ℕ) → ((i : ℕ) → k ≤ i → getD (g .entries) i zeroEntry ≡ zeroEntry) → restZero g k ≡ true
+unfolding restZero
+is-rest g k z =
+    every-all _ logLimit
+    (λ i l. ⊎-elim (λ m. or-left _ _ (lt-ltb i k m)) (λ m. or-right (ltb i k) _ (ap (λ (e : Entry). sameEntry e zeroEntry) (z i m) ∙ sameEntry-refl zeroEntry)) (lt-or-le i k))
+
+-- ---- the whole log
+
+pub record LogGood (term : ℕ) (g : Log) : Type 0 where
+  pub tidy : Tidy g
+  pub order : Orderly term (live g)
+
+pub log-good : {term : ℕ} {g : Log} → length (g .entries) ≡ logLimit → logOk term g ≡ true → LogGood term g
+unfolding logOk
+log-good {term} {g} s h =
+    let h2 = and-right (leb (g .len) logLimit) _ h in
+    record {
+      tidy = record { slots = s; short = leb-true (g .len) logLimit (and-left _ _ h); rest = rest-is g (g .len) s (and-left _ _ h2) };
+      order = orderly (and-right (restZero g (g .len)) _ h2);
+    }
+
+pub good-log : {term : ℕ} {g : Log} → LogGood term g → logOk term g ≡ true
+unfolding logOk
+good-log {term} {g} o =
+    and-both _ _ (le-leb (g .len) logLimit (o .tidy .short)) (and-both _ _ (is-rest g (g .len) (o .tidy .rest)) (in-order (o .order)))

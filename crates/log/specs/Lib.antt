@@ -1,0 +1,5 @@
+-- What the log's functions promise. Assumes nothing.
+pub mod Entries
+pub mod Logs
+pub mod Order
+pub mod Ranges

@@ -1,0 +1,36 @@
+-- One log by value: its slots and its length, the entries that it holds, and what makes a log. Assumes nothing.
+use mathlib.Core.List.{List}
+use mathlib.Core.Bool.{cond}
+use Prim.Native.Nat.{ℕ, _+_}
+use lib.Dec.{ltb}
+use lib.ListN.{length, take, set, replicate}
+use Rattle.base.specs.Lists.{joinedAt}
+use Rattle.log.specs.declared.Entry.{Entry}
+use Rattle.log.specs.declared.Log.{Log}
+use Rattle.log.specs.Entries.{zeroEntry}
+
+-- a log holds at most 32 entries
+abbrev pub logLimit : ℕ
+logLimit = 32
+
+-- positions that can be asked for go to 32
+abbrev pub highestPosition : ℕ
+highestPosition = 32
+
+abbrev pub emptyLog : Log
+emptyLog = record { entries = replicate logLimit zeroEntry; len = 0 }
+
+-- the entries that a log holds: its slots up to its length
+abbrev pub live : Log → List Entry
+live g = take (g .len) (g .entries)
+
+abbrev pub lengthOf : Log → ℕ
+lengthOf g = length (live g)
+
+-- one entry more, in the first slot past the length; a full log stays as it is
+unfoldable pub appended : Log → Entry → Log
+appended g e = cond (ltb (g .len) logLimit) (record { entries = set (g .entries) (g .len) e; len = g .len + 1 }) g
+
+-- the first k slots of a, and then the rest of b, of b's length
+abbrev pub joined : Log → Log → ℕ → Log
+joined a b k = record { entries = joinedAt k (a .entries) (b .entries); len = b .len }

@@ -1,0 +1,40 @@
+-- Which logs a well-formed record may hold, as 01 words it. Assumes nothing.
+use mathlib.Core.List.{List}
+use mathlib.Core.Bool.{Bool, _&&_, _||_}
+use Prim.Native.Nat.{ℕ, suc}
+use lib.Dec.{eqb, ltb, leb}
+use lib.ListN.{length, getD}
+use Rattle.base.specs.Numbers.{every}
+use Rattle.clock.specs.Times.{isBefore}
+use Rattle.log.specs.declared.Entry.{Entry}
+use Rattle.log.specs.declared.Log.{Log}
+use Rattle.log.specs.Entries.{zeroEntry, sameEntry, entryAt}
+use Rattle.log.specs.Logs.{logLimit, live}
+
+-- a key is 0 to 15
+abbrev pub highestKey : ℕ
+highestKey = 15
+
+-- an entry's term is at least 1 and never exceeds the server's term; its key and value are in range
+unfoldable pub entryOk : ℕ → Entry → Bool
+entryOk term e = leb 1 (e .term) && (leb (e .term) term && (leb (e .key) highestKey && leb 1 (e .value)))
+
+-- from d to the next entry e, terms never fall and times rise strictly
+unfoldable pub follows : Entry → Entry → Bool
+follows d e = leb (d .term) (e .term) && isBefore (d .time) (e .time)
+
+-- e may stand after the first i entries, the last of which is d
+unfoldable pub placeOk : ℕ → ℕ → Entry → Entry → Bool
+placeOk term i d e = entryOk term e && (eqb i 0 || follows d e)
+
+-- every entry may stand in its place, in a log of a server of this term
+unfoldable pub inOrder : ℕ → List Entry → Bool
+inOrder term es = every (length es) (λ i. placeOk term i (entryAt es i) (entryAt es (suc i)))
+
+-- every slot past the first k is zero
+unfoldable pub restZero : Log → ℕ → Bool
+restZero g k = every logLimit (λ i. ltb i k || sameEntry (getD (g .entries) i zeroEntry) zeroEntry)
+
+-- the length is at most 32, slots past it are zero, and the entries are in order
+unfoldable pub logOk : ℕ → Log → Bool
+logOk term g = leb (g .len) logLimit && (restZero g (g .len) && inOrder term (live g))
