@@ -4,5 +4,6 @@ pub mod Facts
 pub mod Every
 pub mod Counting
 pub mod Highest
+pub mod Greatest
 pub mod Each
 pub mod Joined

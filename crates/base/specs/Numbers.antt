@@ -1,6 +1,6 @@
--- Tests on the numbers below a bound: all of them, how many, the highest. Assumes nothing.
+-- Tests on the numbers below a bound: all of them, how many, the highest, the greatest of a value. Assumes nothing.
 use mathlib.Core.Bool.{Bool, true, false, cond, _&&_}
-use Prim.Native.Nat.{ℕ, zero, suc, _+_}
+use Prim.Native.Nat.{ℕ, zero, suc, _+_, max}
 
 -- every number below n passes
 unfoldable pub every : ℕ → (ℕ → Bool) → Bool
@@ -16,3 +16,8 @@ count (suc n) p = cond (p n) 1 0 + count n p
 unfoldable pub highest : (ℕ → Bool) → ℕ → ℕ
 highest p zero = 0
 highest p (suc k) = cond (p (suc k)) (suc k) (highest p k)
+
+-- the greatest value at a number below n, 0 if there is none
+unfoldable pub greatest : ℕ → (ℕ → ℕ) → ℕ
+greatest zero f = 0
+greatest (suc n) f = max (f n) (greatest n f)

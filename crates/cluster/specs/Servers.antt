@@ -1,7 +1,7 @@
 -- The fixed records of 01, and records with one server or all servers changed. Assumes nothing.
 use mathlib.Core.List.{List, []}
 use mathlib.Core.Bool.{Bool, true, false, cond}
-use Prim.Native.Nat.{ℕ}
+use Prim.Native.Nat.{ℕ, min}
 use lib.Dec.{eqb, ltb}
 use lib.ListN.{getD, set, replicate}
 use Rattle.base.specs.Lists.{each}
@@ -28,6 +28,10 @@ freshServer = record { log = emptyLog; term = 0; primary = false; commit = 0; wa
 -- what the language takes for an element past an array's end
 abbrev pub pastServer : Server
 pastServer = record { log = record { entries = []; len = 0 }; term = 0; primary = false; commit = 0; wall = 0; time = zeroTime }
+
+-- the server count, cut at seven so that it is one for every record
+abbrev pub serverCount : Cluster → ℕ
+serverCount c = min (c .count) mostServers
 
 abbrev pub serverAt : Cluster → ℕ → Server
 serverAt c i = getD (c .servers) i pastServer

@@ -1,6 +1,7 @@
 // Servers side by side in one record, by value: the fixed records, one server replaced, all servers changed, and which records are well formed.
 ghost use mathlib.Core.Path.{_≡_};
-ghost use Rattle.cluster.specs.Servers.{zeroServer, freshServer, zeroCluster, startedOf, freshCluster, withServer, votedOf, electedAll, clockedOf, clocksSet};
+ghost use Prim.Native.Nat.{min};
+ghost use Rattle.cluster.specs.Servers.{mostServers, zeroServer, freshServer, zeroCluster, startedOf, freshCluster, withServer, votedOf, electedAll, clockedOf, clocksSet};
 ghost use Rattle.cluster.specs.WellFormed.{numbersOk, countedOk, zeroOk, serverOk, wellFormed};
 use clock::Time;
 use log::Log;
@@ -58,6 +59,17 @@ pub fn fresh_server() -> Server
     ensures { λ r. ⌜ r ≡ freshServer ⌝ }
 {
     FRESH_SERVER
+}
+
+// The server count, cut at seven.
+pub fn server_count(count: usize) -> usize
+    ensures { λ r. ⌜ r ≡ min count mostServers ⌝ }
+{
+    if MOST_SERVERS < count {
+        MOST_SERVERS
+    } else {
+        count
+    }
 }
 
 // The record before the first start.

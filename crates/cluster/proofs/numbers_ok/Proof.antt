@@ -11,13 +11,10 @@ use borrow.Author.Needs.{needs}
 use Rattle.cluster.proofs.numbers_ok.Statement.{statement}
 use Rattle.cluster.proofs.numbers_ok.Tie as tie
 
--- HELPERS
 -- what is left to test at a primary
 at-primary : (s : Server) → s .commit ≤ s .log .len → 1 ≤ s .wall → s .primary ≡ true → leb 1 (s .term) ≡ numbersOk s
 unfolding numbersOk
 at-primary s h k p = rw (le-leb (s .commit) (s .log .len) h, le-leb 1 (s .wall) k, p)
-
--- END
 
 returns : tie.Need-returns
 unfolding numbersOk

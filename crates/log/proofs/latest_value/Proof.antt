@@ -20,7 +20,6 @@ Inv-loop key n g len value₀ i₀ value i = (i ≤ 32) × (i ≤ length (take n
 abbrev μ-loop : tie.MeasureT-loop
 μ-loop key n g len value₀ i₀ value i = 32 - i
 
--- HELPERS
 -- how many entries are looked at
 looked : (g : Log) (n : ℕ) → length (g .entries) ≡ 32 → length (take n (live g)) ≡ min n (min (g .len) 32)
 looked g n h = omega (arith, length-take n (live g), length-live g 32 h)
@@ -28,8 +27,6 @@ looked g n h = omega (arith, length-take n (live g), length-live g 32 h)
 -- the entry in slot i is among them
 among : (g : Log) (n i : ℕ) → i < n → i < g .len → entryAt (take n (live g)) (suc i) ≡ getD (g .entries) i zeroEntry
 among g n i h l = entryAt-take n (suc i) (live g) h ∙ entryAt-slot g i l
-
--- END
 
 loop-holds : tie.Need-loop-holds Inv-loop μ-loop
 loop-holds c = (search needs, search needs, latest-none)

@@ -1,0 +1,50 @@
+-- Kind 4: a pulls from b. Assumes nothing.
+use mathlib.Core.List.{[], _∷_}
+use mathlib.Core.Bool.{Bool, not, _||_}
+use Prim.Native.Nat.{ℕ, max}
+use lib.Dec.{eqb, ltb}
+use Rattle.clock.specs.Times.{laterOf}
+use Rattle.log.specs.declared.Log.{Log}
+use Rattle.log.specs.Entries.{equalAt}
+use Rattle.log.specs.Logs.{live, lengthOf, joined}
+use Rattle.cluster.specs.declared.Server.{Server}
+use Rattle.steps.specs.declared.Stepped.{Stepped}
+use Rattle.steps.specs.declared.Answer.the-variants.{Reached}
+use Rattle.steps.specs.declared.Refusal.the-variants.{WrongRole, ConditionUnmet}
+use Rattle.steps.specs.Refusals.{Rules, decided}
+use Rattle.steps.specs.Answers.{refusing}
+
+-- the log g of n entries is empty, or its last entry is equal to h's at that position
+abbrev pub mayJoin : Log → Log → ℕ → Bool
+mayJoin g h n = eqb n 0 || equalAt (live g) (live h) n
+
+-- a secondary; a's log shorter than b's; a's log empty, or its last entry equal to b's at that position
+abbrev pub pullRules : Server → Server → Rules
+pullRules s t =
+    (not (s .primary), WrongRole)
+    ∷ (ltb (lengthOf (s .log)) (lengthOf (t .log)), ConditionUnmet)
+    ∷ (mayJoin (s .log) (t .log) (lengthOf (s .log)), ConditionUnmet)
+    ∷ []
+
+-- a with the log g; term, cluster time and commit point each the greater of both
+unfoldable pub tookOf : Server → Server → Log → Server
+tookOf s t g =
+    record {
+      log = g;
+      term = max (s .term) (t .term);
+      primary = s .primary;
+      commit = max (s .commit) (t .commit);
+      wall = s .wall;
+      time = laterOf (s .time) (t .time);
+    }
+
+-- a's log gets the rest of b's
+abbrev pub pulledOf : Server → Server → Server
+pulledOf s t = tookOf s t (joined (s .log) (t .log) (lengthOf (s .log)))
+
+-- the answer is the new length
+abbrev pub pullDone : Server → Server → Stepped
+pullDone s t = record { server = pulledOf s t; answer = Reached (lengthOf (joined (s .log) (t .log) (lengthOf (s .log)))) }
+
+abbrev pub pullsOf : Server → Server → Stepped
+pullsOf s t = decided (refusing s) (pullDone s t) (pullRules s t)

@@ -1,0 +1,39 @@
+-- Kind 5: a rolls back to b. Assumes nothing.
+use mathlib.Core.List.{[], _∷_}
+use mathlib.Core.Bool.{not}
+use Prim.Native.Nat.{ℕ}
+use lib.Dec.{ltb, leb}
+use Rattle.log.specs.Entries.{lastTerm, commonBeginning, isBeginning}
+use Rattle.log.specs.Logs.{live, lengthOf, joined}
+use Rattle.cluster.specs.declared.Server.{Server}
+use Rattle.steps.specs.declared.Stepped.{Stepped}
+use Rattle.steps.specs.declared.Answer.the-variants.{Reached}
+use Rattle.steps.specs.declared.Refusal.the-variants.{WrongRole, ConditionUnmet, BelowCommitPoint}
+use Rattle.steps.specs.Refusals.{Rules, decided}
+use Rattle.steps.specs.Answers.{refusing}
+use Rattle.pairs.specs.Pulls.{tookOf}
+
+abbrev pub common : Server → Server → ℕ
+common s t = commonBeginning (live (s .log)) (live (t .log))
+
+-- a secondary; a's log not empty; its last term below b's; its log not a beginning of b's; refusal 9 where the common beginning
+-- is shorter than a's commit point
+abbrev pub rollRules : Server → Server → Rules
+rollRules s t =
+    (not (s .primary), WrongRole)
+    ∷ (leb 1 (lengthOf (s .log)), ConditionUnmet)
+    ∷ (ltb (lastTerm (live (s .log))) (lastTerm (live (t .log))), ConditionUnmet)
+    ∷ (not (isBeginning (live (s .log)) (live (t .log))), ConditionUnmet)
+    ∷ (leb (s .commit) (common s t), BelowCommitPoint)
+    ∷ []
+
+-- a keeps the longest common beginning, then the rest of b's log; term, cluster time, commit point as in 4
+abbrev pub rolledOf : Server → Server → Server
+rolledOf s t = tookOf s t (joined (s .log) (t .log) (common s t))
+
+-- the answer is the new length
+abbrev pub rollDone : Server → Server → Stepped
+rollDone s t = record { server = rolledOf s t; answer = Reached (lengthOf (joined (s .log) (t .log) (common s t))) }
+
+abbrev pub rollsBackOf : Server → Server → Stepped
+rollsBackOf s t = decided (refusing s) (rollDone s t) (rollRules s t)

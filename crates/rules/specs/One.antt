@@ -1,0 +1,48 @@
+-- The kinds that change one server, as one function of it and of the server that it looks at. Assumes nothing.
+use mathlib.Core.List.{[], _∷_}
+use Prim.Native.Nat.{ℕ}
+use Rattle.cluster.specs.declared.Cluster.{Cluster}
+use Rattle.cluster.specs.declared.Server.{Server}
+use Rattle.steps.specs.declared.Step.{Step}
+use Rattle.steps.specs.declared.Step.the-variants.{Start, Elect, StepDown, Hears, Pulls, RollsBack, Writes, Advances, WallClock, Restarts, LocalRead, MajorityRead, Acknowledged, ClocksAgree}
+use Rattle.steps.specs.declared.Stepped.{Stepped}
+use Rattle.steps.specs.declared.Outcome.{Outcome}
+use Rattle.steps.specs.declared.Answer.the-variants.{Done}
+use Rattle.cluster.specs.Servers.{serverAt}
+use Rattle.steps.specs.Refusals.{decided}
+use Rattle.steps.specs.Answers.{refusingAll}
+use Rattle.rules.specs.Rules.{inRange, apart, putBack}
+use Rattle.pairs.specs.Hears.{hearsOf}
+use Rattle.pairs.specs.Pulls.{pullsOf}
+use Rattle.pairs.specs.RollsBack.{rollsBackOf}
+use Rattle.singles.specs.Roles.{stepsDownOf, wallClockOf, restartsOf}
+use Rattle.singles.specs.Writes.{writesOf}
+use Rattle.singles.specs.Reads.{localReadOf, majorityReadOf}
+
+-- a step of the whole cluster leaves a server as it is
+abbrev pub untouched : Server → Stepped
+untouched s = record { server = s; answer = Done }
+
+unfoldable pub oneOf : Server → Server → Step → Stepped
+oneOf s t (Start n) = untouched s
+oneOf s t (Elect a m) = untouched s
+oneOf s t (StepDown a) = stepsDownOf s
+oneOf s t (Hears a b) = hearsOf s t
+oneOf s t (Pulls a b) = pullsOf s t
+oneOf s t (RollsBack a b) = rollsBackOf s t
+oneOf s t (Writes a key value) = writesOf s key value
+oneOf s t (Advances a) = untouched s
+oneOf s t (WallClock a) = wallClockOf s
+oneOf s t (Restarts a) = restartsOf s
+oneOf s t (LocalRead a key asked) = localReadOf s key asked
+oneOf s t (MajorityRead a key asked) = majorityReadOf s key asked
+oneOf s t (Acknowledged a k n term) = untouched s
+oneOf s t ClocksAgree = untouched s
+
+-- server a of the record takes the step, alone
+unfoldable pub singleOf : Cluster → ℕ → Step → Outcome
+singleOf c a s = decided (refusingAll c) (putBack c a (oneOf (serverAt c a) (serverAt c a) s)) (inRange c a ∷ [])
+
+-- server a of the record takes the step, looking at server b
+unfoldable pub pairOf : Cluster → ℕ → ℕ → Step → Outcome
+pairOf c a b s = decided (refusingAll c) (putBack c a (oneOf (serverAt c a) (serverAt c b) s)) (apart c a b [])

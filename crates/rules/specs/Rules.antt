@@ -1,0 +1,96 @@
+-- 01's table of steps: for each kind its rules in order, what it gives where none is broken, and the step over any record. Assumes nothing.
+use mathlib.Core.List.{[], _∷_}
+use mathlib.Core.Bool.{Bool, true, false, cond, not, _||_}
+use Prim.Native.Nat.{ℕ}
+use lib.Dec.{eqb, ltb}
+use Rattle.cluster.specs.declared.Cluster.{Cluster}
+use Rattle.cluster.specs.Servers.{serverCount, serverAt, withServer}
+use Rattle.cluster.specs.WellFormed.{wellFormed}
+use Rattle.steps.specs.declared.Step.{Step}
+use Rattle.steps.specs.declared.Step.the-variants.{Start, Elect, StepDown, Hears, Pulls, RollsBack, Writes, Advances, WallClock, Restarts, LocalRead, MajorityRead, Acknowledged, ClocksAgree}
+use Rattle.steps.specs.declared.Refusal.{Refusal}
+use Rattle.steps.specs.declared.Refusal.the-variants.{IllFormed, OutOfRange}
+use Rattle.steps.specs.declared.Stepped.{Stepped}
+use Rattle.steps.specs.declared.Outcome.{Outcome}
+use Rattle.steps.specs.Refusals.{Rules, decided}
+use Rattle.steps.specs.Answers.{refusingAll}
+use Rattle.pairs.specs.Hears.{hearsOf}
+use Rattle.pairs.specs.Pulls.{pullRules, pullDone}
+use Rattle.pairs.specs.RollsBack.{rollRules, rollDone}
+use Rattle.singles.specs.Roles.{downRules, downDone, clockRules, clockDone, restartsOf}
+use Rattle.singles.specs.Writes.{writeRules, writeDone}
+use Rattle.singles.specs.Reads.{localRules, localDone, majorityRules, majorityDone}
+use Rattle.wholes.specs.Starts.{startRules, startDone, agreesOf}
+use Rattle.wholes.specs.Elects.{electRules, electDone}
+use Rattle.wholes.specs.Advances.{advanceRules, advanceDone}
+use Rattle.wholes.specs.Acknowledged.{acknowledgeRules, acknowledgeDone}
+
+-- a server's number is below the server count
+abbrev pub inRange : Cluster → ℕ → Bool × Refusal
+inRange c a = (ltb a (serverCount c), OutOfRange)
+
+-- two servers, not the same
+abbrev pub apart : Cluster → ℕ → ℕ → Rules → Rules
+apart c a b rs = inRange c a ∷ inRange c b ∷ (not (eqb a b), OutOfRange) ∷ rs
+
+-- for each kind, what has to hold, in the order in which it is refused
+unfoldable pub rulesOf : Cluster → Step → Rules
+rulesOf c (Start n) = startRules n
+rulesOf c (Elect a m) = electRules c a m
+rulesOf c (StepDown a) = inRange c a ∷ downRules (serverAt c a)
+rulesOf c (Hears a b) = apart c a b []
+rulesOf c (Pulls a b) = apart c a b (pullRules (serverAt c a) (serverAt c b))
+rulesOf c (RollsBack a b) = apart c a b (rollRules (serverAt c a) (serverAt c b))
+rulesOf c (Writes a key value) = inRange c a ∷ writeRules (serverAt c a) key value
+rulesOf c (Advances a) = advanceRules c a
+rulesOf c (WallClock a) = inRange c a ∷ clockRules (serverAt c a)
+rulesOf c (Restarts a) = inRange c a ∷ []
+rulesOf c (LocalRead a key asked) = inRange c a ∷ localRules (serverAt c a) key asked
+rulesOf c (MajorityRead a key asked) = inRange c a ∷ majorityRules (serverAt c a) key asked
+rulesOf c (Acknowledged a k n term) = acknowledgeRules c a k n term
+rulesOf c ClocksAgree = []
+
+-- server a as a step left it, the others unchanged, and its answer
+abbrev pub putBack : Cluster → ℕ → Stepped → Outcome
+putBack c a o = record { cluster = withServer c a (o .server); answer = o .answer }
+
+-- for each kind, the record afterwards and the answer, where no rule is broken
+unfoldable pub doneOf : Cluster → Step → Outcome
+doneOf c (Start n) = startDone n
+doneOf c (Elect a m) = electDone c a m
+doneOf c (StepDown a) = putBack c a (downDone (serverAt c a))
+doneOf c (Hears a b) = putBack c a (hearsOf (serverAt c a) (serverAt c b))
+doneOf c (Pulls a b) = putBack c a (pullDone (serverAt c a) (serverAt c b))
+doneOf c (RollsBack a b) = putBack c a (rollDone (serverAt c a) (serverAt c b))
+doneOf c (Writes a key value) = putBack c a (writeDone (serverAt c a) key value)
+doneOf c (Advances a) = advanceDone c a
+doneOf c (WallClock a) = putBack c a (clockDone (serverAt c a))
+doneOf c (Restarts a) = putBack c a (restartsOf (serverAt c a))
+doneOf c (LocalRead a key asked) = putBack c a (localDone (serverAt c a) key)
+doneOf c (MajorityRead a key asked) = putBack c a (majorityDone (serverAt c a) key)
+doneOf c (Acknowledged a k n term) = acknowledgeDone c a n
+doneOf c ClocksAgree = agreesOf c
+
+-- the step on a record that needn't be looked at
+unfoldable pub coreOf : Cluster → Step → Outcome
+coreOf c s = decided (refusingAll c) (doneOf c s) (rulesOf c s)
+
+abbrev pub isStart : Step → Bool
+isStart (Start n) = true
+isStart (Elect a m) = false
+isStart (StepDown a) = false
+isStart (Hears a b) = false
+isStart (Pulls a b) = false
+isStart (RollsBack a b) = false
+isStart (Writes a key value) = false
+isStart (Advances a) = false
+isStart (WallClock a) = false
+isStart (Restarts a) = false
+isStart (LocalRead a key asked) = false
+isStart (MajorityRead a key asked) = false
+isStart (Acknowledged a k n term) = false
+isStart ClocksAgree = false
+
+-- an ill-formed record is refused first; a start doesn't look at it
+unfoldable pub stepOf : Cluster → Step → Outcome
+stepOf c s = cond (isStart s || wellFormed c) (coreOf c s) (refusingAll c IllFormed)

@@ -1,0 +1,119 @@
+// The step: a record and a step in, the next record and an answer out, for every record and every step.
+ghost use mathlib.Core.Path.{_≡_};
+ghost use Rattle.rules.specs.Rules.{isStart, coreOf, stepOf};
+ghost use Rattle.rules.specs.One.{oneOf, singleOf, pairOf};
+use cluster::Cluster;
+use cluster::Server;
+use steps::Answer;
+use steps::Outcome;
+use steps::Refusal;
+use steps::Step;
+use steps::Stepped;
+
+// The kinds that change one server: server s, looking at t, takes the step. A step of the whole cluster leaves it as it is.
+pub fn one(s: Server, t: Server, step: Step) -> Stepped
+    ensures { λ r. ⌜ r ≡ oneOf s t step ⌝ }
+{
+    match step {
+        Step::StepDown(_) => singles::steps_down(s),
+        Step::Hears(_, _) => pairs::hears(s, t),
+        Step::Pulls(_, _) => pairs::pulls(s, t),
+        Step::RollsBack(_, _) => pairs::rolls_back(s, t),
+        Step::Writes(_, key, value) => singles::writes(s, key, value),
+        Step::WallClock(_) => singles::wall_clock(s),
+        Step::Restarts(_) => singles::restarts(s),
+        Step::LocalRead(_, key, asked) => singles::local_read(s, key, asked),
+        Step::MajorityRead(_, key, asked) => singles::majority_read(s, key, asked),
+        Step::Start(_)
+        | Step::Elect(_, _)
+        | Step::Advances(_)
+        | Step::Acknowledged(_, _, _, _)
+        | Step::ClocksAgree => Stepped {
+            server: s,
+            answer: Answer::Done,
+        },
+    }
+}
+
+// A step of server a alone.
+pub fn single(c: Cluster, a: usize, step: Step) -> Outcome
+    ensures { λ r. ⌜ r ≡ singleOf c a step ⌝ }
+{
+    if cluster::server_count(c.count) <= a {
+        return steps::refuse_all(c, Refusal::OutOfRange);
+    }
+    let s = c.servers[a];
+    let o = one(s, s, step);
+    let t = o.server;
+    let answer = o.answer;
+    Outcome {
+        cluster: cluster::with_server(c, a, t),
+        answer: answer,
+    }
+}
+
+// A step of server a that looks at server b.
+pub fn pair(c: Cluster, a: usize, b: usize, step: Step) -> Outcome
+    ensures { λ r. ⌜ r ≡ pairOf c a b step ⌝ }
+{
+    let size = cluster::server_count(c.count);
+    if size <= a {
+        return steps::refuse_all(c, Refusal::OutOfRange);
+    }
+    if size <= b {
+        return steps::refuse_all(c, Refusal::OutOfRange);
+    }
+    if a == b {
+        return steps::refuse_all(c, Refusal::OutOfRange);
+    }
+    let s = c.servers[a];
+    let t = c.servers[b];
+    let o = one(s, t, step);
+    let u = o.server;
+    let answer = o.answer;
+    Outcome {
+        cluster: cluster::with_server(c, a, u),
+        answer: answer,
+    }
+}
+
+// The step on a record that is not looked at. Here alone the numbers of a step are widened.
+pub fn core(c: Cluster, step: Step) -> Outcome
+    ensures { λ r. ⌜ r ≡ coreOf c step ⌝ }
+{
+    match step {
+        Step::Start(n) => wholes::starts(c, n as usize),
+        Step::Elect(a, set) => wholes::elects(c, a as usize, set),
+        Step::StepDown(a) => single(c, a as usize, step),
+        Step::Hears(a, b) => pair(c, a as usize, b as usize, step),
+        Step::Pulls(a, b) => pair(c, a as usize, b as usize, step),
+        Step::RollsBack(a, b) => pair(c, a as usize, b as usize, step),
+        Step::Writes(a, _, _) => single(c, a as usize, step),
+        Step::Advances(a) => wholes::advances(c, a as usize),
+        Step::WallClock(a) => single(c, a as usize, step),
+        Step::Restarts(a) => single(c, a as usize, step),
+        Step::LocalRead(a, _, _) => single(c, a as usize, step),
+        Step::MajorityRead(a, _, _) => single(c, a as usize, step),
+        Step::Acknowledged(a, k, n, term) => wholes::acknowledged(c, a as usize, k as usize, n as usize, term),
+        Step::ClocksAgree => wholes::clocks_agree(c),
+    }
+}
+
+pub fn is_start(step: Step) -> bool
+    ensures { λ r. ⌜ r ≡ isStart step ⌝ }
+{
+    if let Step::Start(_) = step { true } else { false }
+}
+
+// The step on any record at all.
+pub fn step(c: Cluster, step: Step) -> Outcome
+    ensures { λ r. ⌜ r ≡ stepOf c step ⌝ }
+{
+    if is_start(step) {
+        return core(c, step);
+    }
+    if !cluster::well_formed(c) {
+        return steps::refuse_all(c, Refusal::IllFormed);
+    }
+    core(c, step)
+}

@@ -1,0 +1,2 @@
+-- Laws of decided steps. Assumes nothing.
+pub mod Decided

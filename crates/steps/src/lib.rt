@@ -1,0 +1,125 @@
+// The words of the rules: a step, a refusal, an answer, and what a step gives.
+ghost use mathlib.Core.Path.{_≡_};
+ghost use Rattle.steps.specs.Answers.{refusing, refusingAll, tellingOf, numberOf};
+use clock::Time;
+use cluster::Cluster;
+use cluster::Server;
+
+// One variant a kind, in 01's order, holding just the fields that it uses, each as wide as on the wire.
+pub enum Step {
+    // a servers
+    Start(u8),
+    // a, set
+    Elect(u8, u8),
+    // a
+    StepDown(u8),
+    // a, b
+    Hears(u8, u8),
+    // a, b
+    Pulls(u8, u8),
+    // a, b
+    RollsBack(u8, u8),
+    // a, key, value
+    Writes(u8, u8, u16),
+    // a
+    Advances(u8),
+    // a
+    WallClock(u8),
+    // a
+    Restarts(u8),
+    // a, key, the time asked
+    LocalRead(u8, u8, Time),
+    // a, key, the time asked
+    MajorityRead(u8, u8, Time),
+    // a, count, position, term
+    Acknowledged(u8, u8, u16, u16),
+    ClocksAgree,
+}
+
+// In the order of their numbers, from 1.
+pub enum Refusal {
+    NotAFrame,
+    IllFormed,
+    OutOfRange,
+    WrongRole,
+    ConditionUnmet,
+    LogFull,
+    AtLimit,
+    NotYet,
+    BelowCommitPoint,
+    NoSuchEntry,
+}
+
+// An answer carries either its numbers or one refusal, never both.
+pub enum Answer {
+    // nothing to tell
+    Done,
+    // the new term
+    Elected(u16),
+    // the new length or commit point
+    Reached(usize),
+    // position, and the entry's term and time
+    Entry(usize, u16, Time),
+    // value, with the applied or commit time
+    Value(u16, Time),
+    Refused(Refusal),
+}
+
+// What an answer frame says: number, term and time, or a refusal.
+pub enum Telling {
+    Numbers(u16, u16, Time),
+    Refusing(Refusal),
+}
+
+// What a step of one server gives.
+pub struct Stepped {
+    pub server: Server,
+    pub answer: Answer,
+}
+
+// What a step of the whole record gives.
+pub struct Outcome {
+    pub cluster: Cluster,
+    pub answer: Answer,
+}
+
+// The server as it was, and the refusal.
+pub fn refuse(s: Server, r: Refusal) -> Stepped
+    ensures { λ o. ⌜ o ≡ refusing s r ⌝ }
+{
+    Stepped {
+        server: s,
+        answer: Answer::Refused(r),
+    }
+}
+
+// The record as it was, and the refusal.
+pub fn refuse_all(c: Cluster, r: Refusal) -> Outcome
+    ensures { λ o. ⌜ o ≡ refusingAll c r ⌝ }
+{
+    Outcome {
+        cluster: c,
+        answer: Answer::Refused(r),
+    }
+}
+
+// A position or a length as an answer's number.
+pub fn number(n: usize) -> u16
+    ensures { λ r. ⌜ r ≡ numberOf n ⌝ }
+{
+    (n % 65536) as u16
+}
+
+// 01's numbers for each case of an answer.
+pub fn told(a: Answer) -> Telling
+    ensures { λ r. ⌜ r ≡ tellingOf a ⌝ }
+{
+    match a {
+        Answer::Done => Telling::Numbers(0, 0, clock::ZERO_TIME),
+        Answer::Elected(term) => Telling::Numbers(0, term, clock::ZERO_TIME),
+        Answer::Reached(n) => Telling::Numbers(number(n), 0, clock::ZERO_TIME),
+        Answer::Entry(n, term, time) => Telling::Numbers(number(n), term, time),
+        Answer::Value(value, time) => Telling::Numbers(value, 0, time),
+        Answer::Refused(r) => Telling::Refusing(r),
+    }
+}

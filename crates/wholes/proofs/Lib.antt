@@ -1,0 +1,2 @@
+-- Laws of the kinds that need the whole cluster. Assumes nothing.
+pub mod Passing
