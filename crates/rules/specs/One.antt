@@ -20,24 +20,24 @@ use Rattle.singles.specs.Writes.{writesOf}
 use Rattle.singles.specs.Reads.{localReadOf, majorityReadOf}
 
 -- a step of the whole cluster leaves a server as it is
-abbrev pub untouched : Server → Stepped
-untouched s = record { server = s; answer = Done }
+abbrev pub untouchedOf : Server → Stepped
+untouchedOf s = record { server = s; answer = Done }
 
 unfoldable pub oneOf : Server → Server → Step → Stepped
-oneOf s t (Start n) = untouched s
-oneOf s t (Elect a m) = untouched s
+oneOf s t (Start n) = untouchedOf s
+oneOf s t (Elect a m) = untouchedOf s
 oneOf s t (StepDown a) = stepsDownOf s
 oneOf s t (Hears a b) = hearsOf s t
 oneOf s t (Pulls a b) = pullsOf s t
 oneOf s t (RollsBack a b) = rollsBackOf s t
 oneOf s t (Writes a key value) = writesOf s key value
-oneOf s t (Advances a) = untouched s
+oneOf s t (Advances a) = untouchedOf s
 oneOf s t (WallClock a) = wallClockOf s
 oneOf s t (Restarts a) = restartsOf s
 oneOf s t (LocalRead a key asked) = localReadOf s key asked
 oneOf s t (MajorityRead a key asked) = majorityReadOf s key asked
-oneOf s t (Acknowledged a k n term) = untouched s
-oneOf s t ClocksAgree = untouched s
+oneOf s t (Acknowledged a k n term) = untouchedOf s
+oneOf s t ClocksAgree = untouchedOf s
 
 -- server a of the record takes the step, alone
 unfoldable pub singleOf : Cluster → ℕ → Step → Outcome

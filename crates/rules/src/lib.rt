@@ -1,7 +1,7 @@
 // The step: a record and a step in, the next record and an answer out, for every record and every step.
 ghost use mathlib.Core.Path.{_≡_};
 ghost use Rattle.rules.specs.Rules.{isStart, coreOf, stepOf};
-ghost use Rattle.rules.specs.One.{oneOf, singleOf, pairOf};
+ghost use Rattle.rules.specs.One.{untouchedOf, oneOf, singleOf, pairOf};
 use cluster::Cluster;
 use cluster::Server;
 use steps::Answer;
@@ -9,6 +9,16 @@ use steps::Outcome;
 use steps::Refusal;
 use steps::Step;
 use steps::Stepped;
+
+// The server as it is, with nothing to tell.
+pub fn untouched(s: Server) -> Stepped
+    ensures { λ r. ⌜ r ≡ untouchedOf s ⌝ }
+{
+    Stepped {
+        server: s,
+        answer: Answer::Done,
+    }
+}
 
 // The kinds that change one server: server s, looking at t, takes the step. A step of the whole cluster leaves it as it is.
 pub fn one(s: Server, t: Server, step: Step) -> Stepped
@@ -24,14 +34,11 @@ pub fn one(s: Server, t: Server, step: Step) -> Stepped
         Step::Restarts(_) => singles::restarts(s),
         Step::LocalRead(_, key, asked) => singles::local_read(s, key, asked),
         Step::MajorityRead(_, key, asked) => singles::majority_read(s, key, asked),
-        Step::Start(_)
-        | Step::Elect(_, _)
-        | Step::Advances(_)
-        | Step::Acknowledged(_, _, _, _)
-        | Step::ClocksAgree => Stepped {
-            server: s,
-            answer: Answer::Done,
-        },
+        Step::Start(_) => untouched(s),
+        Step::Elect(_, _) => untouched(s),
+        Step::Advances(_) => untouched(s),
+        Step::Acknowledged(_, _, _, _) => untouched(s),
+        Step::ClocksAgree => untouched(s),
     }
 }
 
@@ -94,7 +101,13 @@ pub fn core(c: Cluster, step: Step) -> Outcome
         Step::Restarts(a) => single(c, a as usize, step),
         Step::LocalRead(a, _, _) => single(c, a as usize, step),
         Step::MajorityRead(a, _, _) => single(c, a as usize, step),
-        Step::Acknowledged(a, k, n, term) => wholes::acknowledged(c, a as usize, k as usize, n as usize, term),
+        Step::Acknowledged(a, k, n, term) => wholes::acknowledged(
+            c,
+            a as usize,
+            k as usize,
+            n as usize,
+            term,
+        ),
         Step::ClocksAgree => wholes::clocks_agree(c),
     }
 }
@@ -102,7 +115,22 @@ pub fn core(c: Cluster, step: Step) -> Outcome
 pub fn is_start(step: Step) -> bool
     ensures { λ r. ⌜ r ≡ isStart step ⌝ }
 {
-    if let Step::Start(_) = step { true } else { false }
+    match step {
+        Step::Start(_) => true,
+        Step::Elect(_, _) => false,
+        Step::StepDown(_) => false,
+        Step::Hears(_, _) => false,
+        Step::Pulls(_, _) => false,
+        Step::RollsBack(_, _) => false,
+        Step::Writes(_, _, _) => false,
+        Step::Advances(_) => false,
+        Step::WallClock(_) => false,
+        Step::Restarts(_) => false,
+        Step::LocalRead(_, _, _) => false,
+        Step::MajorityRead(_, _, _) => false,
+        Step::Acknowledged(_, _, _, _) => false,
+        Step::ClocksAgree => false,
+    }
 }
 
 // The step on any record at all.

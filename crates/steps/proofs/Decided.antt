@@ -1,6 +1,6 @@
 -- Laws of `decided`: refused exactly where a test fails, and by the first one that does. Assumes nothing.
-use mathlib.Core.Path.{_≡_, refl, ap}
-use mathlib.Core.List.{List, [], _∷_, _++_}
+use mathlib.Core.Path.{_≡_, refl}
+use mathlib.Core.List.{[], _∷_}
 use mathlib.Core.Bool.{Bool, true, false, cond}
 use mathlib.Core.Logic.{_⊎_, inl, inr}
 use Rattle.steps.specs.declared.Refusal.{Refusal}
@@ -35,18 +35,13 @@ module _ {A : Type 0} (refuse : Refusal → A) (done : A) where
   decided-broken (here e) = rw e
   decided-broken (later e b) = rw e (decided-broken b)
 
-  -- tests that stand before others
-  pub decided-then : (xs ys : Rules) → decided refuse done (xs ++ ys) ≡ decided refuse (decided refuse done ys) xs
-  decided-then [] ys = refl
-  decided-then (p ∷ xs) ys = ap (λ (a : A). cond (p .0) a (refuse (p .1))) (decided-then xs ys)
-
 -- a function of what is decided
-pub decided-map : {A B : Type 0} (f : A → B) (refuse : Refusal → A) (done : A) (rs : Rules)
-    → f (decided refuse done rs) ≡ decided (λ r. f (refuse r)) (f done) rs
-decided-map f refuse done [] = refl
-decided-map f refuse done (p ∷ rs) = go (p .0) (decided-map f refuse done rs)
+pub decided-map : {A B : Type 0} (f : A → B) (refuse : Refusal → A) (refuse′ : Refusal → B) (done : A) → ((r : Refusal) → f (refuse r) ≡ refuse′ r)
+    → (rs : Rules) → f (decided refuse done rs) ≡ decided refuse′ (f done) rs
+decided-map f refuse refuse′ done h [] = refl
+decided-map f refuse refuse′ done h (p ∷ rs) = go (p .0) (decided-map f refuse refuse′ done h rs)
   where
-    go : (b : Bool) → f (decided refuse done rs) ≡ decided (λ r. f (refuse r)) (f done) rs
-        → f (cond b (decided refuse done rs) (refuse (p .1))) ≡ cond b (decided (λ r. f (refuse r)) (f done) rs) (f (refuse (p .1)))
-    go true h = h
-    go false h = refl
+    go : (b : Bool) → f (decided refuse done rs) ≡ decided refuse′ (f done) rs
+        → f (cond b (decided refuse done rs) (refuse (p .1))) ≡ cond b (decided refuse′ (f done) rs) (refuse′ (p .1))
+    go true e = e
+    go false e = h (p .1)

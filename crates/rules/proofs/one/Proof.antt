@@ -1,129 +1,149 @@
+-- `rules::one` meets its contract. Assumes nothing.
+use Rattle.rules.specs.One.{oneOf}
+use mathlib.Core.Path.{sym, ap, _∙_}
 use borrow.Author.Needs.{needs}
 use Rattle.rules.proofs.one.Statement.{statement}
 use Rattle.rules.proofs.one.Tie as tie
-use Rattle.rules.proofs.one.Reads as reads
-use Rattle.rules.proofs.one.Lts as lts
-use Rattle.pairs.proofs.hears.Reads as hears-reads
-use Rattle.pairs.proofs.pulls.Reads as pulls-reads
-use Rattle.pairs.proofs.rolls_back.Reads as rolls-back-reads
-use Rattle.singles.proofs.local_read.Reads as local-read-reads
-use Rattle.singles.proofs.majority_read.Reads as majority-read-reads
-use Rattle.singles.proofs.restarts.Reads as restarts-reads
-use Rattle.singles.proofs.steps_down.Reads as steps-down-reads
-use Rattle.singles.proofs.wall_clock.Reads as wall-clock-reads
-use Rattle.singles.proofs.writes.Reads as writes-reads
 
--- src/lib.rt:18:30
 enum-told : tie.Need-enum-told
 enum-told c = search needs
 
--- src/lib.rt:18:30
 steps-down-requires : tie.Need-steps-down-requires
 steps-down-requires c κs = search needs
 
--- src/lib.rt:19:30
 enum-told-2 : tie.Need-enum-told-2
 enum-told-2 c = search needs
 
--- src/lib.rt:19:30
 hears-requires : tie.Need-hears-requires
 hears-requires c κs = search needs
 
--- src/lib.rt:20:30
 enum-told-3 : tie.Need-enum-told-3
 enum-told-3 c = search needs
 
--- src/lib.rt:20:30
 pulls-requires : tie.Need-pulls-requires
 pulls-requires c κs = search needs
 
--- src/lib.rt:21:34
 enum-told-4 : tie.Need-enum-told-4
 enum-told-4 c = search needs
 
--- src/lib.rt:21:34
 rolls-back-requires : tie.Need-rolls-back-requires
 rolls-back-requires c κs = search needs
 
--- src/lib.rt:22:25
 enum-known-step : tie.Need-enum-known-step
 enum-known-step c = search needs
 
--- src/lib.rt:22:40
 writes-requires : tie.Need-writes-requires
 writes-requires c κs = search needs
 
--- src/lib.rt:23:31
 enum-told-5 : tie.Need-enum-told-5
 enum-told-5 c = search needs
 
--- src/lib.rt:23:31
 wall-clock-requires : tie.Need-wall-clock-requires
 wall-clock-requires c κs = search needs
 
--- src/lib.rt:24:30
 enum-told-6 : tie.Need-enum-told-6
 enum-told-6 c = search needs
 
--- src/lib.rt:24:30
 restarts-requires : tie.Need-restarts-requires
 restarts-requires c κs = search needs
 
--- src/lib.rt:25:28
 enum-known-step-2 : tie.Need-enum-known-step-2
 enum-known-step-2 c = search needs
 
--- src/lib.rt:25:43
 local-read-requires : tie.Need-local-read-requires
 local-read-requires c κs = search needs
 
--- src/lib.rt:26:31
 enum-known-step-3 : tie.Need-enum-known-step-3
 enum-known-step-3 c = search needs
 
--- src/lib.rt:26:46
 majority-read-requires : tie.Need-majority-read-requires
 majority-read-requires c κs = search needs
 
--- src/lib.rt:14:1
+enum-told-7 : tie.Need-enum-told-7
+enum-told-7 c = search needs
+
+untouched-requires : tie.Need-untouched-requires
+untouched-requires c κs = search needs
+
+enum-told-8 : tie.Need-enum-told-8
+enum-told-8 c = search needs
+
+untouched-requires-2 : tie.Need-untouched-requires-2
+untouched-requires-2 c κs = search needs
+
+enum-told-9 : tie.Need-enum-told-9
+enum-told-9 c = search needs
+
+untouched-requires-3 : tie.Need-untouched-requires-3
+untouched-requires-3 c κs = search needs
+
+enum-told-10 : tie.Need-enum-told-10
+enum-told-10 c = search needs
+
+untouched-requires-4 : tie.Need-untouched-requires-4
+untouched-requires-4 c κs = search needs
+
+enum-told-11 : tie.Need-enum-told-11
+enum-told-11 c = search needs
+
+untouched-requires-5 : tie.Need-untouched-requires-5
+untouched-requires-5 c κs = search needs
+
 returns : tie.Need-returns
-returns c = ?
+unfolding oneOf
+returns c = let b = c .before .before .before .args in c .steps-down .ensures ∙ sym (ap (oneOf (b .s) (b .t)) (c .before .enum-told .given .1))
 
--- src/lib.rt:14:1
 returns-2 : tie.Need-returns-2
-returns-2 c = ?
+unfolding oneOf
+returns-2 c = let b = c .before .before .before .args in c .hears .ensures ∙ sym (ap (oneOf (b .s) (b .t)) (c .before .enum-told2 .given .1))
 
--- src/lib.rt:14:1
 returns-3 : tie.Need-returns-3
-returns-3 c = ?
+unfolding oneOf
+returns-3 c = let b = c .before .before .before .args in c .pulls .ensures ∙ sym (ap (oneOf (b .s) (b .t)) (c .before .enum-told3 .given .1))
 
--- src/lib.rt:14:1
 returns-4 : tie.Need-returns-4
-returns-4 c = ?
+unfolding oneOf
+returns-4 c = let b = c .before .before .before .args in c .rolls-back .ensures ∙ sym (ap (oneOf (b .s) (b .t)) (c .before .enum-told4 .given .1))
 
--- src/lib.rt:14:1
 returns-5 : tie.Need-returns-5
-returns-5 c = ?
+unfolding oneOf
+returns-5 c = let b = c .before .before .before .before .args in c .writes .ensures ∙ sym (ap (oneOf (b .s) (b .t)) (c .before .before .step .given .1))
 
--- src/lib.rt:14:1
 returns-6 : tie.Need-returns-6
-returns-6 c = ?
+unfolding oneOf
+returns-6 c = let b = c .before .before .before .args in c .wall-clock .ensures ∙ sym (ap (oneOf (b .s) (b .t)) (c .before .enum-told5 .given .1))
 
--- src/lib.rt:14:1
 returns-7 : tie.Need-returns-7
-returns-7 c = ?
+unfolding oneOf
+returns-7 c = let b = c .before .before .before .args in c .restarts .ensures ∙ sym (ap (oneOf (b .s) (b .t)) (c .before .enum-told6 .given .1))
 
--- src/lib.rt:14:1
 returns-8 : tie.Need-returns-8
-returns-8 c = ?
+unfolding oneOf
+returns-8 c = let b = c .before .before .before .before .args in c .local-read .ensures ∙ sym (ap (oneOf (b .s) (b .t)) (c .before .before .step2 .given .1))
 
--- src/lib.rt:14:1
 returns-9 : tie.Need-returns-9
-returns-9 c = ?
+unfolding oneOf
+returns-9 c = let b = c .before .before .before .before .args in c .majority-read .ensures ∙ sym (ap (oneOf (b .s) (b .t)) (c .before .before .step3 .given .1))
 
--- src/lib.rt:14:1
 returns-10 : tie.Need-returns-10
-returns-10 c = ?
+unfolding oneOf
+returns-10 c = let b = c .before .before .before .args in c .untouched .ensures ∙ sym (ap (oneOf (b .s) (b .t)) (c .before .enum-told7 .given .1))
+
+returns-11 : tie.Need-returns-11
+unfolding oneOf
+returns-11 c = let b = c .before .before .before .args in c .untouched2 .ensures ∙ sym (ap (oneOf (b .s) (b .t)) (c .before .enum-told8 .given .1))
+
+returns-12 : tie.Need-returns-12
+unfolding oneOf
+returns-12 c = let b = c .before .before .before .args in c .untouched3 .ensures ∙ sym (ap (oneOf (b .s) (b .t)) (c .before .enum-told9 .given .1))
+
+returns-13 : tie.Need-returns-13
+unfolding oneOf
+returns-13 c = let b = c .before .before .before .args in c .untouched4 .ensures ∙ sym (ap (oneOf (b .s) (b .t)) (c .before .enum-told10 .given .1))
+
+returns-14 : tie.Need-returns-14
+unfolding oneOf
+returns-14 c = let b = c .before .before .before .args in c .untouched5 .ensures ∙ sym (ap (oneOf (b .s) (b .t)) (c .before .enum-told11 .given .1))
 
 pub one-spec : {M : Type 1} → statement M
 one-spec =
@@ -147,6 +167,16 @@ one-spec =
     local-read-requires
     enum-known-step-3
     majority-read-requires
+    enum-told-7
+    untouched-requires
+    enum-told-8
+    untouched-requires-2
+    enum-told-9
+    untouched-requires-3
+    enum-told-10
+    untouched-requires-4
+    enum-told-11
+    untouched-requires-5
     returns
     returns-2
     returns-3
@@ -156,4 +186,8 @@ one-spec =
     returns-7
     returns-8
     returns-9
-    returns-10)
+    returns-10
+    returns-11
+    returns-12
+    returns-13
+    returns-14)

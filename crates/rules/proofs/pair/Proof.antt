@@ -1,68 +1,79 @@
+-- `rules::pair` meets its contract. Assumes nothing.
+use Rattle.rules.specs.One.{oneOf, pairOf}
+use Rattle.rules.specs.Rules.{putBack}
+use Rattle.steps.specs.declared.Outcome.{Outcome}
+use Rattle.steps.specs.declared.Stepped.{Stepped}
+use Rattle.cluster.specs.Servers.{serverAt, serverCount, withServer}
+use lib.Dec.{ltb}
+use mathlib.Core.Bool.{true}
+use borrow.Author.Tests.{lt-ltb, le-ltb, eq-eqb, ne-eqb}
+use native.Mathlib.Omega.{arith}
+use mathlib.Core.Path.{_≡_, ap, _∙_}
 use borrow.Author.Needs.{needs}
 use Rattle.rules.proofs.pair.Statement.{statement}
 use Rattle.rules.proofs.pair.Tie as tie
-use Rattle.rules.proofs.pair.Reads as reads
-use Rattle.rules.proofs.pair.Lts as lts
-use Rattle.cluster.proofs.server_count.Reads as server-count-reads
-use Rattle.cluster.proofs.with_server.Reads as with-server-reads
-use Rattle.rules.proofs.one.Reads as one-reads
-use Rattle.steps.proofs.refuse_all.Reads as refuse-all-reads
 
--- src/lib.rt:59:9
+-- what has passed at each place
+first : (c : tie.Else1) → ltb (c .before .before .args .a) (serverCount (c .before .before .args .t1)) ≡ true
+first c = lt-ltb (c .before .before .args .a) (serverCount (c .before .before .args .t1)) (omega (arith, c .before .server-count .ensures))
+
+second : (c : tie.Else2) → ltb (c .before .before .before .args .b) (serverCount (c .before .before .before .args .t1)) ≡ true
+second c = lt-ltb (c .before .before .before .args .b) (serverCount (c .before .before .before .args .t1)) (omega (arith, c .before .before .server-count .ensures))
+
 server-count-requires : tie.Need-server-count-requires
 server-count-requires c κs = search needs
 
--- src/lib.rt:61:9
 refuse-all-requires : tie.Need-refuse-all-requires
 refuse-all-requires c κs = search needs
 
--- src/lib.rt:61:9
 returns : tie.Need-returns
-returns c = ?
+unfolding pairOf
+returns c =
+    let b = c .before .before .before .args in
+    rw (le-ltb (b .a) (serverCount (b .t1)) (omega (arith, c .before .before .server-count .ensures))) (c .refuse-all .ensures)
 
--- src/lib.rt:64:9
 refuse-all-requires-2 : tie.Need-refuse-all-requires-2
 refuse-all-requires-2 c κs = search needs
 
--- src/lib.rt:64:9
 returns-2 : tie.Need-returns-2
-returns-2 c = ?
+unfolding pairOf
+returns-2 c =
+    let b = c .before .before .before .before .args in
+    rw (first (c .before .before), le-ltb (b .b) (serverCount (b .t1)) (omega (arith, c .before .before .before .server-count .ensures))) (c .refuse-all2 .ensures)
 
--- src/lib.rt:67:9
 refuse-all-requires-3 : tie.Need-refuse-all-requires-3
 refuse-all-requires-3 c κs = search needs
 
--- src/lib.rt:67:9
 returns-3 : tie.Need-returns-3
-returns-3 c = ?
+unfolding pairOf
+returns-3 c = let b = c .before .before .before .before .before .args in rw (first (c .before .before .before), second (c .before .before), eq-eqb (b .a) (b .b) (c .before .if3 .taken)) (c .refuse-all3 .ensures)
 
--- src/lib.rt:69:13
 mul-s : tie.Need-mul-s
-mul-s c = search needs
+mul-s c = search (needs, c .before .before .before .server-count .ensures)
 
--- src/lib.rt:69:13
 element-copy-out-s : tie.Need-element-copy-out-s
-element-copy-out-s c = search needs
+element-copy-out-s c = omega (arith, c .before .before .before .server-count .ensures)
 
--- src/lib.rt:70:13
 mul-t : tie.Need-mul-t
-mul-t c = search needs
+mul-t c = search (needs, c .before .before .before .before .server-count .ensures)
 
--- src/lib.rt:70:13
 element-copy-out-t : tie.Need-element-copy-out-t
-element-copy-out-t c = search needs
+element-copy-out-t c = omega (arith, c .before .before .before .before .server-count .ensures)
 
--- src/lib.rt:71:9
 one-requires : tie.Need-one-requires
 one-requires c κs = search needs
 
--- src/lib.rt:75:18
 with-server-requires : tie.Need-with-server-requires
 with-server-requires c κs = search needs
 
--- src/lib.rt:56:1
 returns-4 : tie.Need-returns-4
-returns-4 c = ?
+unfolding pairOf
+returns-4 c =
+    let b = c .before .before .before .before .before .before .before .before .before .args in
+    let e = c .before .before .one .ensures in
+    let o : _≡_ {A = Outcome} (record { cluster = c .with-server .result; answer = c .before .before .one .result .answer }) (putBack (b .t1) (b .a) (oneOf (serverAt (b .t1) (b .a)) (serverAt (b .t1) (b .b)) (b .step))) =
+    λ i. record { cluster = (c .with-server .ensures ∙ ap (λ (r : Stepped). withServer (b .t1) (b .a) (r .server)) e) i; answer = e i .answer } in
+    rw (first (c .before .before .before .before .before .before .before), second (c .before .before .before .before .before .before), ne-eqb (b .a) (b .b) (c .before .before .before .before .before .if3 .left)) o
 
 pub pair-spec : {M : Type 1} → statement M
 pair-spec =

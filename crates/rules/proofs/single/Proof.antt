@@ -1,44 +1,48 @@
+-- `rules::single` meets its contract. Assumes nothing.
+use Rattle.rules.specs.One.{oneOf, singleOf}
+use Rattle.rules.specs.Rules.{putBack}
+use Rattle.steps.specs.declared.Outcome.{Outcome}
+use Rattle.steps.specs.declared.Stepped.{Stepped}
+use Rattle.cluster.specs.Servers.{serverAt, serverCount, withServer}
+use borrow.Author.Tests.{lt-ltb, le-ltb}
+use native.Mathlib.Omega.{arith}
+use mathlib.Core.Path.{_≡_, ap, _∙_}
 use borrow.Author.Needs.{needs}
 use Rattle.rules.proofs.single.Statement.{statement}
 use Rattle.rules.proofs.single.Tie as tie
-use Rattle.rules.proofs.single.Reads as reads
-use Rattle.rules.proofs.single.Lts as lts
-use Rattle.cluster.proofs.server_count.Reads as server-count-reads
-use Rattle.cluster.proofs.with_server.Reads as with-server-reads
-use Rattle.rules.proofs.one.Reads as one-reads
-use Rattle.steps.proofs.refuse_all.Reads as refuse-all-reads
 
--- src/lib.rt:42:8
 server-count-requires : tie.Need-server-count-requires
 server-count-requires c κs = search needs
 
--- src/lib.rt:43:9
 refuse-all-requires : tie.Need-refuse-all-requires
 refuse-all-requires c κs = search needs
 
--- src/lib.rt:43:9
 returns : tie.Need-returns
-returns c = ?
+unfolding singleOf
+returns c =
+    let b = c .before .before .before .args in
+    rw (le-ltb (b .a) (serverCount (b .t1)) (omega (arith, c .before .before .server-count .ensures))) (c .refuse-all .ensures)
 
--- src/lib.rt:45:13
 mul-s : tie.Need-mul-s
-mul-s c = search needs
+mul-s c = search (needs, c .before .server-count .ensures)
 
--- src/lib.rt:45:13
 element-copy-out-s : tie.Need-element-copy-out-s
-element-copy-out-s c = search needs
+element-copy-out-s c = omega (arith, c .before .server-count .ensures)
 
--- src/lib.rt:46:9
 one-requires : tie.Need-one-requires
 one-requires c κs = search needs
 
--- src/lib.rt:50:18
 with-server-requires : tie.Need-with-server-requires
 with-server-requires c κs = search needs
 
--- src/lib.rt:39:1
 returns-2 : tie.Need-returns-2
-returns-2 c = ?
+unfolding singleOf
+returns-2 c =
+    let b = c .before .before .before .before .before .before .args in
+    let e = c .before .before .one .ensures in
+    let o : _≡_ {A = Outcome} (record { cluster = c .with-server .result; answer = c .before .before .one .result .answer }) (putBack (b .t1) (b .a) (oneOf (serverAt (b .t1) (b .a)) (serverAt (b .t1) (b .a)) (b .step))) =
+    λ i. record { cluster = (c .with-server .ensures ∙ ap (λ (r : Stepped). withServer (b .t1) (b .a) (r .server)) e) i; answer = e i .answer } in
+    rw (lt-ltb (b .a) (serverCount (b .t1)) (omega (arith, c .before .before .before .before .before .server-count .ensures))) o
 
 pub single-spec : {M : Type 1} → statement M
 single-spec =

@@ -1,44 +1,37 @@
+-- `rules::step` meets its contract. Assumes nothing.
+use Rattle.rules.specs.Rules.{stepOf}
+use Rattle.base.proofs.Bools.{said-no, said-yes}
+use mathlib.Core.Path.{sym, _∙_}
 use borrow.Author.Needs.{needs}
 use Rattle.rules.proofs.step.Statement.{statement}
 use Rattle.rules.proofs.step.Tie as tie
-use Rattle.rules.proofs.step.Reads as reads
-use Rattle.rules.proofs.step.Lts as lts
-use Rattle.cluster.proofs.well_formed.Reads as well-formed-reads
-use Rattle.rules.proofs.core.Reads as core-reads
-use Rattle.rules.proofs.is_start.Reads as is-start-reads
-use Rattle.steps.proofs.refuse_all.Reads as refuse-all-reads
 
--- src/lib.rt:112:8
 is-start-requires : tie.Need-is-start-requires
 is-start-requires c κs = search needs
 
--- src/lib.rt:113:9
 core-requires : tie.Need-core-requires
 core-requires c κs = search needs
 
--- src/lib.rt:113:9
 returns : tie.Need-returns
-returns c = ?
+unfolding stepOf
+returns c = rw (sym (c .before .before .is-start .ensures) ∙ c .before .if1 .taken) (c .core .ensures)
 
--- src/lib.rt:115:9
 well-formed-requires : tie.Need-well-formed-requires
 well-formed-requires c κs = search needs
 
--- src/lib.rt:116:9
 refuse-all-requires : tie.Need-refuse-all-requires
 refuse-all-requires c κs = search needs
 
--- src/lib.rt:116:9
 returns-2 : tie.Need-returns-2
-returns-2 c = ?
+unfolding stepOf
+returns-2 c = rw (sym (c .before .before .before .before .is-start .ensures) ∙ c .before .before .before .if1 .left, said-no _ _ (c .before .before .well-formed .ensures) (c .before .if2 .taken)) (c .refuse-all .ensures)
 
--- src/lib.rt:118:5
 core-requires-2 : tie.Need-core-requires-2
 core-requires-2 c κs = search needs
 
--- src/lib.rt:109:1
 returns-3 : tie.Need-returns-3
-returns-3 c = ?
+unfolding stepOf
+returns-3 c = rw (sym (c .before .before .before .before .is-start .ensures) ∙ c .before .before .before .if1 .left, said-yes _ _ (c .before .before .well-formed .ensures) (c .before .if2 .left)) (c .core2 .ensures)
 
 pub step-spec : {M : Type 1} → statement M
 step-spec =

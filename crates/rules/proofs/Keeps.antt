@@ -1,0 +1,148 @@
+-- Every step that fits keeps what the types give and well-formedness, from every well-formed record, reached or not. Assumes nothing.
+use mathlib.Core.Path.{_≡_, refl, ap}
+use mathlib.Core.Bool.{Bool, true, false, not, _||_}
+use mathlib.Core.Logic.{⊎-elim}
+use Prim.Native.Nat.{ℕ, _<_, _≤_}
+use native.Mathlib.Omega.{arith}
+use lib.Dec.{eqb, ltb}
+use borrow.Author.Tests.{ltb-true, leb-true, lt-ltb, le-ltb, not-true}
+use Rattle.base.proofs.Bools.{and-left, or-cases, not-both}
+use Rattle.base.proofs.Every.{every-at}
+use Rattle.base.proofs.Greatest.{greatest-above, greatest-below}
+use Rattle.base.proofs.Highest.{highest-le}
+use Rattle.clock.specs.Times.{limit}
+use Rattle.log.specs.Logs.{lengthOf}
+use Rattle.cluster.specs.declared.Server.{Server}
+use Rattle.cluster.specs.declared.Cluster.{Cluster}
+use Rattle.cluster.specs.Ranges.{Fits}
+use Rattle.cluster.specs.Servers.{freshCluster, serverCount, zeroServer, serverAt, withServer, votedOf, electedAll, clockedOf, clocksSet}
+use Rattle.cluster.specs.Sets.{member}
+use Rattle.cluster.specs.WellFormed.{wellFormed}
+use Rattle.cluster.proofs.Fresh.{good-fresh, fits-fresh}
+use Rattle.cluster.proofs.Good.{Good, good, well-formed}
+use Rattle.cluster.proofs.Masks.{within-member}
+use Rattle.steps.specs.declared.Outcome.{Outcome}
+use Rattle.steps.specs.declared.Step.{Step}
+use Rattle.steps.specs.declared.Step.the-variants.{Start, Elect, StepDown, Hears, Pulls, RollsBack, Writes, Advances, WallClock, Restarts, LocalRead, MajorityRead, Acknowledged, ClocksAgree}
+use Rattle.steps.specs.Ranges.{byte, FitsStep}
+use Rattle.steps.proofs.Decided.{Clear}
+use Rattle.wholes.specs.Elects.{mayVote, allMayVote, electRules, newTerm}
+use Rattle.wholes.specs.Advances.{passes, highestPassing, advanceDone}
+use Rattle.wholes.specs.Starts.{startRules, greatestClock}
+use Rattle.rules.specs.Rules.{rulesOf, doneOf, isStart, stepOf}
+use Rattle.rules.proofs.Outcomes.{step-done, StepDone, step-cases}
+use Rattle.rules.proofs.Others.{voted-inside, voted-outside, clocked-counted, clocked-past}
+use Rattle.rules.proofs.Servers.{ServerSound, down-sound, wall-sound, restarted-sound, committed-sound, voted-sound, heard-sound, pulled-sound, rolled-sound, wrote-sound}
+use Rattle.rules.proofs.Records.{Sound, counted-sound, replaced-sound, changed-sound}
+
+-- ---- what is done keeps the record
+
+-- a member of a set that may elect s may vote for it
+pub voter-may : (c : Cluster) (s : Server) (m : ℕ) → allMayVote c s m ≡ true → (i : ℕ) → i < serverCount c → member m i ≡ true → mayVote s (serverAt c i) ≡ true
+unfolding allMayVote
+voter-may c s m k i l e =
+    ⊎-elim (λ n. not-both (member m i) e (not-true (member m i) n)) (λ v. v) (or-cases (not (member m i)) _ (every-at _ (serverCount c) i k l))
+
+module _ {c : Cluster} (h : Sound c) where
+  -- a number below the server count is a counted server's
+  counted : (a : ℕ) → ltb a (serverCount c) ≡ true → a < c .count
+  counted a e = omega (arith, ltb-true a (serverCount c) e)
+
+  at : (a : ℕ) → ltb a (serverCount c) ≡ true → ServerSound (serverAt c a)
+  at a e = counted-sound h a (counted a e)
+
+  put : (a : ℕ) (s : Server) → ltb a (serverCount c) ≡ true → (ServerSound (serverAt c a) → ServerSound s) → Sound (withServer c a s)
+  put a s e new = replaced-sound h a s (counted a e) (new (at a e))
+
+  -- who votes has a term not above a's, and none votes from past the count
+  elected-sound : (a m : ℕ) → m < byte → Clear (electRules c a m) → Sound (electedAll c a m (newTerm c a))
+  unfolding mayVote
+  elected-sound a m small k =
+      changed-sound h (votedOf a m (newTerm c a)) (λ i l. new i l (member m i) refl)
+      (λ i l. voted-outside a m (newTerm c a) i zeroServer (none i l (member m i) refl))
+    where
+      up : (i : ℕ) → i < c .count → member m i ≡ true → serverAt c i .term < newTerm c a
+      up i l e =
+          let v = voter-may c (serverAt c a) m (k .1 .1 .1 .1 .0) i (omega (arith, h .good .at-most-seven)) e in
+          omega (arith, leb-true (serverAt c i .term) (serverAt c a .term) (and-left _ _ v))
+
+      new : (i : ℕ) → i < c .count → (b : Bool) → member m i ≡ b → ServerSound (votedOf a m (newTerm c a) i (serverAt c i))
+      new i l true e =
+          rw (voted-inside a m (newTerm c a) i (serverAt c i) e)
+          (voted-sound (counted-sound h i l) (newTerm c a) (eqb i a) (up i l e) (omega (arith, ltb-true (serverAt c a .term) limit (k .1 .1 .1 .1 .1 .0))))
+      new i l false e = rw (voted-outside a m (newTerm c a) i (serverAt c i) e) (counted-sound h i l)
+
+      none : (i : ℕ) → c .count ≤ i → (b : Bool) → member m i ≡ b → b ≡ false
+      none i l true e = absurd (omega (arith, within-member m (serverCount c) i small (k .1 .0) e))
+      none i l false e = refl
+
+  -- the greatest clock is not below any clock, and fits as they do
+  agreed-sound : Sound (clocksSet c (greatestClock c))
+  agreed-sound =
+      changed-sound h (clockedOf (c .count) (greatestClock c))
+      (λ i l. rw (clocked-counted (c .count) (greatestClock c) i (serverAt c i) (lt-ltb i (c .count) l))
+      (wall-sound (counted-sound h i l) (greatestClock c) (from i l) to))
+      (λ i l. clocked-past (c .count) (greatestClock c) i zeroServer (le-ltb i (c .count) l))
+    where
+      from : (i : ℕ) → i < c .count → 1 ≤ greatestClock c
+      from i l =
+          omega (
+            arith,
+            greatest-above (λ j. serverAt c j .wall) (serverCount c) i (omega (arith, h .good .at-most-seven)),
+            h .good .counted i l .wall-clock,
+          )
+
+      to : greatestClock c ≤ limit
+      to = greatest-below (λ j. serverAt c j .wall) (serverCount c) limit (λ i l. h .fits .each i (omega arith) .wall)
+
+  -- a position that passes is one of the log
+  advanced-sound : (a : ℕ) → ltb a (serverCount c) ≡ true → Sound (advanceDone c a .cluster)
+  unfolding highestPassing
+  advanced-sound a e = put a _ e (λ x. committed-sound x _ (highest-le (passes c (serverAt c a)) (lengthOf (serverAt c a .log))))
+
+-- a start needs nothing of the record before
+done-sound : (c : Cluster) (s : Step) → (isStart s ≡ false → Sound c) → FitsStep s → Clear (rulesOf c s) → Sound (doneOf c s .cluster)
+unfolding rulesOf doneOf
+done-sound c (Start n) h f k =
+    let two = leb-true _ n (k .0) in
+    let seven = leb-true n _ (k .1 .0) in
+    record { fits = fits-fresh n seven; good = good-fresh n two seven }
+done-sound c (Elect a m) h f k = elected-sound (h refl) a m (f .1) k
+done-sound c (StepDown a) h f k = put (h refl) a _ (k .0) down-sound
+done-sound c (Hears a b) h f k = put (h refl) a _ (k .0) (λ x. heard-sound x (at (h refl) b (k .1 .0)))
+done-sound c (Pulls a b) h f k = put (h refl) a _ (k .0) (λ x. pulled-sound x (at (h refl) b (k .1 .0)) (k .1 .1 .1))
+done-sound c (RollsBack a b) h f k = put (h refl) a _ (k .0) (λ x. rolled-sound x (at (h refl) b (k .1 .0)) (k .1 .1 .1))
+done-sound c (Writes a key value) h f k = put (h refl) a _ (k .0) (λ x. wrote-sound x key value (f .2) (k .1))
+done-sound c (Advances a) h f k = advanced-sound (h refl) a (k .0)
+done-sound c (WallClock a) h f k = put (h refl) a _ (k .0) (λ x. wall-sound x _ (omega arith) (omega (arith, ltb-true (serverAt c a .wall) limit (k .1 .0))))
+done-sound c (Restarts a) h f k = put (h refl) a _ (k .0) restarted-sound
+done-sound c (LocalRead a key asked) h f k = put (h refl) a _ (k .0) (λ x. x)
+done-sound c (MajorityRead a key asked) h f k = put (h refl) a _ (k .0) (λ x. x)
+done-sound c (Acknowledged a n position term) h f k = h refl
+done-sound c ClocksAgree h f k = agreed-sound (h refl)
+
+-- ---- every step keeps it
+
+-- a record that a step other than a start looked at is well formed
+seen-sound : (c : Cluster) (s : Step) → Fits c → (isStart s || wellFormed c) ≡ true → isStart s ≡ false → Sound c
+seen-sound c s f e n = record { fits = f; good = good c f (⊎-elim (λ y. not-both (isStart s) y n) (λ w. w) (or-cases (isStart s) (wellFormed c) e)) }
+
+step-sound : (c : Cluster) (s : Step) → Fits c → FitsStep s → StepDone c s → Sound (stepOf c s .cluster)
+step-sound c s f fs d = rw (d .is) (done-sound c s (seen-sound c s f (d .seen)) fs (d .clear))
+
+pub step-fits : (c : Cluster) (s : Step) → Fits c → FitsStep s → Fits (stepOf c s .cluster)
+step-fits c s f fs = ⊎-elim (λ d. step-sound c s f fs d .fits) (λ d. rw (d .is) f) (step-cases c s)
+
+pub step-good : (c : Cluster) (s : Step) → Fits c → FitsStep s → Good c → Good (stepOf c s .cluster)
+step-good c s f fs g = ⊎-elim (λ d. step-sound c s f fs d .good) (λ d. rw (d .is) g) (step-cases c s)
+
+pub step-well-formed : (c : Cluster) (s : Step) → Fits c → FitsStep s → wellFormed c ≡ true → wellFormed (stepOf c s .cluster) ≡ true
+step-well-formed c s f fs w = well-formed (stepOf c s .cluster) (step-good c s f fs (good c f w))
+
+-- a start that succeeds gives the fresh cluster, which is well formed, from any record
+pub start-fresh : (c : Cluster) (n : ℕ) → Clear (startRules n) → stepOf c (Start n) .cluster ≡ freshCluster n
+unfolding rulesOf doneOf
+start-fresh c n k = ap (λ (o : Outcome). o .cluster) (step-done c (Start n) refl k)
+
+pub start-good : (c : Cluster) (n : ℕ) → Clear (startRules n) → Good (stepOf c (Start n) .cluster)
+start-good c n k = rw (start-fresh c n k) (good-fresh n (leb-true _ n (k .0)) (leb-true n _ (k .1 .0)))

@@ -1,0 +1,10 @@
+-- Laws of the step: done or refused, what it leaves alone, and what it keeps. Assumes nothing.
+pub mod Outcomes
+pub mod Others
+pub mod Lists
+pub mod Logs
+pub mod Ranges
+pub mod Servers
+pub mod Records
+pub mod Keeps
+pub mod Parts

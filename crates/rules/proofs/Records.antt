@@ -1,0 +1,67 @@
+-- A well-formed record stays one where a counted server is replaced by one that may stand there, and where every server is changed. Assumes nothing.
+use mathlib.Core.Path.{_≡_, ap, sym, _∙_, subst}
+use mathlib.Core.Logic.{⊎-elim}
+use Prim.Native.Nat.{ℕ, _<_, _≤_}
+use native.Mathlib.Omega.{arith}
+use lib.ListN.{length-set}
+use Rattle.base.proofs.Each.{length-eachFrom}
+use Rattle.base.proofs.Facts.{lt-or-le}
+use Rattle.cluster.specs.declared.Server.{Server}
+use Rattle.cluster.specs.declared.Cluster.{Cluster}
+use Rattle.cluster.specs.Ranges.{FitsServer, Fits}
+use Rattle.cluster.specs.Servers.{mostServers, zeroServer, pastServer, serverAt, withServer}
+use Rattle.cluster.proofs.Changed.{replaced-others, changed-at}
+use Rattle.cluster.proofs.Good.{ServerGood, Good}
+use Rattle.rules.proofs.Lists.{all-set}
+use Rattle.rules.proofs.Others.{changedBy}
+use Rattle.rules.proofs.Servers.{ServerSound}
+
+-- a record that fits and is well formed
+pub record Sound (c : Cluster) : Type 0 where
+  pub fits : Fits c
+  pub good : Good c
+
+module _ {c : Cluster} (h : Sound c) where
+  pub counted-sound : (i : ℕ) → i < c .count → ServerSound (serverAt c i)
+  counted-sound i l = record { fits = h .fits .each i (omega (arith, h .good .at-most-seven)); good = h .good .counted i l }
+
+  pub replaced-sound : (a : ℕ) (s : Server) → a < c .count → ServerSound s → Sound (withServer c a s)
+  replaced-sound a s l new =
+      record {
+        fits = record {
+          count = h .fits .count;
+          slots = length-set (c .servers) a s ∙ h .fits .slots;
+          each = all-set FitsServer (c .servers) pastServer mostServers (omega (arith, h .fits .slots)) (h .fits .each) a s (new .fits);
+        };
+        good = record {
+          at-least-two = h .good .at-least-two;
+          at-most-seven = h .good .at-most-seven;
+          counted = all-set ServerGood (c .servers) pastServer (c .count) (omega (arith, h .fits .slots, h .good .at-most-seven)) (h .good .counted) a s (new .good);
+          past = λ i k m. replaced-others c a s i (omega arith) ∙ h .good .past i k m;
+        };
+      }
+
+  -- the changes have to leave counted servers as they should be, and servers past the count zero
+  module _ (f : ℕ → Server → Server) (new : (i : ℕ) → i < c .count → ServerSound (f i (serverAt c i))) (zero : (i : ℕ) → c .count ≤ i → f i zeroServer ≡ zeroServer) where
+    each-counted : (i : ℕ) → i < c .count → ServerSound (serverAt (changedBy f c) i)
+    each-counted i l = rw (changed-at f c i (omega (arith, h .fits .slots, h .good .at-most-seven))) (new i l)
+
+    each-past : (i : ℕ) → c .count ≤ i → i < mostServers → serverAt (changedBy f c) i ≡ zeroServer
+    each-past i l m = changed-at f c i (omega (arith, h .fits .slots)) ∙ ap (f i) (h .good .past i l m) ∙ zero i l
+
+    pub changed-sound : Sound (changedBy f c)
+    changed-sound =
+        record {
+          fits = record {
+            count = h .fits .count;
+            slots = length-eachFrom f 0 (c .servers) ∙ h .fits .slots;
+            each = λ i m. ⊎-elim (λ l. each-counted i l .fits)
+                (λ l. subst FitsServer (h .good .past i l m ∙ sym (each-past i l m)) (h .fits .each i m)) (lt-or-le i (c .count));
+          };
+          good = record {
+            at-least-two = h .good .at-least-two;
+            at-most-seven = h .good .at-most-seven;
+            counted = λ i l. each-counted i l .good;
+            past = each-past;
+          };
+        }

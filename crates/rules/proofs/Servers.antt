@@ -1,0 +1,212 @@
+-- A counted server of a well-formed record stays one, kind by kind, where its rules are clear. Assumes nothing.
+use mathlib.Core.Path.{_≡_, refl, ap, sym, _∙_, subst}
+use mathlib.Core.Bool.{Bool, true, false, cond, _&&_, _||_}
+use mathlib.Core.Logic.{⊎-elim}
+use mathlib.Core.List.{List, [], _∷_, _++_}
+use Prim.Native.Nat.{ℕ, _<_, _≤_, max}
+use native.Mathlib.Omega.{arith}
+use lib.Dec.{eqb, ltb}
+use lib.ListN.{length}
+use borrow.Author.Tests.{ltb-true, leb-true, eqb-true}
+use Rattle.base.proofs.Bools.{and-left, and-right, or-cases, not-both}
+use Rattle.clock.specs.declared.Time.{Time}
+use Rattle.clock.specs.declared.Ticked.{Ticked}
+use Rattle.clock.specs.declared.Ticked.the-variants.{To, AtLimit}
+use Rattle.clock.specs.Times.{limit, isBefore, tickOf}
+use Rattle.clock.specs.Ranges.{FitsTime}
+use Rattle.clock.proofs.Order.{before-itself, then-before, not-after-trans, later-left, later-right}
+use Rattle.clock.proofs.Ticks.{tick-after}
+use Rattle.log.specs.declared.Entry.{Entry}
+use Rattle.log.specs.declared.Log.{Log}
+use Rattle.log.specs.Entries.{entryAt, appliedTime, equalAt}
+use Rattle.log.specs.Logs.{logLimit, live, lengthOf, appended, joined}
+use Rattle.log.specs.Order.{highestKey}
+use Rattle.log.specs.Ranges.{FitsEntry, FitsLog}
+use Rattle.log.proofs.Common.{common-le, rolled-is}
+use Rattle.log.proofs.Equal.{equal-at}
+use Rattle.log.proofs.Orderly.{EntryGood, LogGood}
+use Rattle.log.proofs.Positions.{length-more, last-more, last-joined}
+use Rattle.log.proofs.Tidy.{tidy-length, live-appended, tidy-appended, live-joined}
+use Rattle.cluster.specs.declared.Server.{Server}
+use Rattle.cluster.specs.Ranges.{FitsServer}
+use Rattle.cluster.proofs.Good.{ServerGood}
+use Rattle.steps.proofs.Decided.{Clear}
+use Rattle.pairs.specs.Hears.{takesCommit, heardOf}
+use Rattle.pairs.specs.Pulls.{pullRules, tookOf, pulledOf}
+use Rattle.pairs.specs.RollsBack.{common, rollRules, rolledOf}
+use Rattle.singles.specs.Roles.{downOf, restartedOf}
+use Rattle.singles.specs.Writes.{ticks, tickTime, writeRules, entryOf, wroteOf}
+use Rattle.wholes.specs.Advances.{committedOf}
+use Rattle.rules.proofs.Others.{officeOf, wallOf}
+use Rattle.rules.proofs.Logs.{log-raised, appended-good, joined-good}
+use Rattle.rules.proofs.Ranges.{fits-later, fits-tick, fits-entry, fits-appended, fits-joined}
+
+-- as every counted server of a well-formed record that fits
+pub record ServerSound (s : Server) : Type 0 where
+  pub fits : FitsServer s
+  pub good : ServerGood s
+
+-- ---- kinds that keep the log
+
+-- a server with the same log: its other fields have to meet these
+pub log-kept : {s t : Server} → ServerSound s → t .log ≡ s .log → s .term ≤ t .term → t .term ≤ limit → (t .primary ≡ true → 1 ≤ t .term)
+    → t .commit ≤ s .log .len → 1 ≤ t .wall → t .wall ≤ limit → FitsTime (t .time) → isBefore (t .time) (appliedTime (live (s .log))) ≡ false → ServerSound t
+log-kept {s} {t} h same up term role commit wall clock time last =
+    record {
+      fits = record { log = rw same (h .fits .log); term = term; commit = omega (arith, h .good .log .tidy .short); wall = clock; time = time };
+      good = record {
+        log = rw same (log-raised up (h .good .log));
+        last-time = rw same last;
+        commit-point = rw same commit;
+        wall-clock = wall;
+        primary-term = role;
+      };
+    }
+
+module _ {s : Server} (h : ServerSound s) where
+  pub down-sound : ServerSound (downOf s)
+  down-sound =
+      log-kept h refl (omega arith) (h .fits .term) (λ p. not-both false p refl) (h .good .commit-point) (h .good .wall-clock) (h .fits .wall) (h .fits .time) (h .good .last-time)
+
+  pub wall-sound : (w : ℕ) → 1 ≤ w → w ≤ limit → ServerSound (wallOf s w)
+  wall-sound w from to =
+      log-kept h refl (omega arith) (h .fits .term) (h .good .primary-term) (h .good .commit-point) from to (h .fits .time) (h .good .last-time)
+
+  pub restarted-sound : ServerSound (restartedOf s)
+  restarted-sound =
+      log-kept h refl (omega arith) (h .fits .term) (λ p. not-both false p refl) (omega arith) (h .good .wall-clock) (h .fits .wall)
+      (fits-entry (h .fits .log) (lengthOf (s .log)) .time) (before-itself (appliedTime (live (s .log))))
+
+  pub committed-sound : (n : ℕ) → n ≤ lengthOf (s .log) → ServerSound (committedOf s n)
+  committed-sound n l =
+      log-kept h refl (omega arith) (h .fits .term) (h .good .primary-term) (omega (arith, tidy-length (h .good .log .tidy))) (h .good .wall-clock) (h .fits .wall) (h .fits .time)
+      (h .good .last-time)
+
+  -- a member takes a term that is above its own
+  pub voted-sound : (t : ℕ) (p : Bool) → s .term < t → t ≤ limit → ServerSound (officeOf s t p)
+  voted-sound t p up to =
+      log-kept h refl (omega arith) to (λ q. omega arith) (h .good .commit-point) (h .good .wall-clock) (h .fits .wall) (h .fits .time) (h .good .last-time)
+
+-- ---- kinds that look at another server
+
+module _ {s t : Server} (h : ServerSound s) (k : ServerSound t) where
+  pub heard-sound : ServerSound (heardOf s t)
+  unfolding heardOf takesCommit
+  heard-sound =
+      log-kept h refl (omega arith) (omega (arith, h .fits .term, k .fits .term)) (λ p. omega (arith, h .good .primary-term (and-left _ _ p))) (reached _ refl)
+      (h .good .wall-clock) (h .fits .wall) (fits-later (s .time) (t .time) (h .fits .time) (k .fits .time))
+      (not-after-trans _ (s .time) _ (h .good .last-time) (later-left (s .time) (t .time)))
+    where
+      -- a commit point that is taken is a position of the own log
+      reached : (b : Bool) → (ltb (s .commit) (t .commit) && equalAt (live (s .log)) (live (t .log)) (t .commit)) ≡ b → cond b (t .commit) (s .commit) ≤ s .log .len
+      reached true e =
+          omega (
+            arith,
+            tidy-length (h .good .log .tidy),
+            equal-at (live (s .log)) (live (t .log)) (t .commit) (and-right (ltb (s .commit) (t .commit)) _ e) .left,
+          )
+      reached false e = h .good .commit-point
+
+  took-sound : (g : Log) → LogGood (max (s .term) (t .term)) g → FitsLog g → appliedTime (live g) ≡ appliedTime (live (t .log))
+      → s .commit ≤ g .len → t .commit ≤ g .len → ServerSound (tookOf s t g)
+  unfolding tookOf
+  took-sound g order range last sc tc =
+      record {
+        fits = record {
+          log = range;
+          term = omega (arith, h .fits .term, k .fits .term);
+          commit = omega (arith, h .fits .commit, k .fits .commit);
+          wall = h .fits .wall;
+          time = fits-later (s .time) (t .time) (h .fits .time) (k .fits .time);
+        };
+        good = record {
+          log = order;
+          last-time = rw last (not-after-trans _ (t .time) _ (k .good .last-time) (later-right (s .time) (t .time)));
+          commit-point = omega arith;
+          wall-clock = h .good .wall-clock;
+          primary-term = λ p. omega (arith, h .good .primary-term p);
+        };
+      }
+
+  pub pulled-sound : Clear (pullRules s t) → ServerSound (pulledOf s t)
+  pulled-sound c =
+      let ls : lengthOf (s .log) ≡ s .log .len = tidy-length (h .good .log .tidy) in
+      let lt : lengthOf (t .log) ≡ t .log .len = tidy-length (k .good .log .tidy) in
+      let shorter : lengthOf (s .log) < lengthOf (t .log) = ltb-true _ _ (c .1 .0) in
+      took-sound (joined (s .log) (t .log) (lengthOf (s .log)))
+      (joined-good (h .good .log) (k .good .log) (lengthOf (s .log)) (omega arith) (omega arith) (agree (c .1 .1 .0)))
+      (fits-joined (lengthOf (s .log)) (h .fits .log) (k .fits .log) (omega (arith, h .good .log .tidy .short)))
+      (ap (λ (es : List Entry). appliedTime es) (live-joined (h .good .log .tidy) (k .good .log .tidy) (lengthOf (s .log)) (omega arith) (omega arith))
+      ∙ ap (λ (e : Entry). e .time) (last-joined (lengthOf (s .log)) (live (s .log)) (live (t .log)) (omega arith) shorter))
+      (omega (arith, h .good .commit-point)) (k .good .commit-point)
+    where
+      -- the logs join at an equal entry
+      agree : (eqb (lengthOf (s .log)) 0 || equalAt (live (s .log)) (live (t .log)) (lengthOf (s .log))) ≡ true → 1 ≤ lengthOf (s .log)
+          → entryAt (live (s .log)) (lengthOf (s .log)) ≡ entryAt (live (t .log)) (lengthOf (s .log))
+      agree e p =
+          ⊎-elim (λ z. absurd (omega (arith, eqb-true (lengthOf (s .log)) 0 z)))
+          (λ q. equal-at (live (s .log)) (live (t .log)) (lengthOf (s .log)) q .same) (or-cases (eqb (lengthOf (s .log)) 0) _ e)
+
+  -- a rollback's log is the other server's
+  pub rolled-sound : Clear (rollRules s t) → ServerSound (rolledOf s t)
+  rolled-sound c =
+      let kept : s .commit ≤ common s t = leb-true _ _ (c .1 .1 .1 .1 .0) in
+      subst (λ (g : Log). ServerSound (tookOf s t g)) (sym (rolled-is (s .log) (t .log)))
+      (took-sound (t .log) (log-raised (omega arith) (k .good .log)) (k .fits .log) refl
+      (omega (arith, common-le (live (s .log)) (live (t .log)) .1, tidy-length (k .good .log .tidy))) (k .good .commit-point))
+
+-- ---- a write
+
+ticked-to : (k : Ticked) → ticks k ≡ true → k ≡ To (tickTime k)
+ticked-to (To t) e = refl
+ticked-to AtLimit e = not-both false e refl
+
+module _ {s : Server} (h : ServerSound s) (key value : ℕ) (small : value ≤ limit) (c : Clear (writeRules s key value)) where
+  -- the new time is after the cluster time, which is not before the applied time
+  wrote-at : (u : Time) → tickOf (s .wall) (s .time) ≡ To u → ServerSound (wroteOf s key value u)
+  unfolding wroteOf
+  wrote-at u tick =
+      record {
+        fits = record { log = fits-appended (h .fits .log) entry-fits; term = h .fits .term; commit = h .fits .commit; wall = h .fits .wall; time = time-fits };
+        good = record {
+          log = appended-good (h .good .log) entry-good (omega arith) (then-before _ (s .time) u (h .good .last-time) (tick-after (s .wall) (s .time) u tick)) room;
+          last-time = rw last (before-itself u);
+          commit-point = omega (arith, longer, h .good .commit-point);
+          wall-clock = h .good .wall-clock;
+          primary-term = h .good .primary-term;
+        };
+      }
+    where
+      room : s .log .len < logLimit
+      room = omega (arith, ltb-true (lengthOf (s .log)) logLimit (c .1 .1 .1 .0), tidy-length (h .good .log .tidy))
+
+      time-fits : FitsTime u
+      time-fits = fits-tick (s .wall) (s .time) u (h .fits .wall) (h .fits .time) tick
+
+      keyed : key ≤ highestKey
+      keyed = leb-true _ _ (c .0)
+
+      entry-fits : FitsEntry (entryOf s key value u)
+      entry-fits = record { term = h .fits .term; key = omega (arith, keyed); value = small; time = time-fits }
+
+      entry-good : EntryGood (s .term) (entryOf s key value u)
+      entry-good = record { from-one = h .good .primary-term (c .1 .1 .0); not-above = omega arith; key = keyed; value = leb-true 1 value (c .1 .0) }
+
+      live-is : live (appended (s .log) (entryOf s key value u)) ≡ live (s .log) ++ (entryOf s key value u ∷ [])
+      live-is = live-appended (h .good .log .tidy) (entryOf s key value u) room
+
+      last : appliedTime (live (appended (s .log) (entryOf s key value u))) ≡ u
+      last = ap (λ (es : List Entry). appliedTime es) live-is ∙ ap (λ (e : Entry). e .time) (last-more (live (s .log)) (entryOf s key value u))
+
+      longer : s .log .len < appended (s .log) (entryOf s key value u) .len
+      longer =
+          omega (
+            arith,
+            tidy-length (h .good .log .tidy),
+            tidy-length (tidy-appended (h .good .log .tidy) (entryOf s key value u) room),
+            ap (λ (es : List Entry). length es) live-is,
+            length-more (live (s .log)) (entryOf s key value u),
+          )
+
+  pub wrote-sound : ServerSound (wroteOf s key value (tickTime (tickOf (s .wall) (s .time))))
+  wrote-sound = wrote-at _ (ticked-to (tickOf (s .wall) (s .time)) (c .1 .1 .1 .1 .0))
