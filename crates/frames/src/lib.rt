@@ -1,0 +1,361 @@
+// Step frames and answer frames: lines of lower-case hexadecimal, each read and written by one layout.
+ghost use mathlib.Core.Path.{_≡_};
+ghost use Rattle.steps.specs.Refusals.{refusalNumber};
+ghost use Rattle.frames.specs.Steps.{fields, frameFor, bytesOfFrame, frameOf, stepOf, stepIn, readStep, writeStep};
+ghost use Rattle.frames.specs.Answers.{answerFrame, refusalByte, bytesOfTelling, refusalOf, tellingBy, tellingIn, readAnswer, writeAnswer};
+use clock::Time;
+use steps::Answer;
+use steps::Refusal;
+use steps::Step;
+use steps::Telling;
+use words::high;
+use words::low;
+use words::word;
+
+mod masks;
+mod words;
+
+// What a line is read as: the step whose frame it is, or no frame.
+pub enum ReadStep {
+    Step(Step),
+    NoFrame,
+}
+
+// What an answer line is read as: what it tells, or no frame.
+pub enum ReadAnswer {
+    Telling(Telling),
+    NoFrame,
+}
+
+// The fields of a step frame, in the order of its bytes; set is a set or a count.
+struct Frame {
+    kind: u8,
+    a: u8,
+    b: u8,
+    set: u8,
+    key: u8,
+    number: u16,
+    term: u16,
+    time: Time,
+}
+
+const STEP_BYTES: usize = 13;
+
+// How many characters a step frame has.
+pub const STEP_CHARS: usize = hex::CHARS * STEP_BYTES;
+
+const ANSWER_BYTES: usize = 9;
+
+// How many characters an answer frame has.
+pub const ANSWER_CHARS: usize = hex::CHARS * ANSWER_BYTES;
+
+const NO_TIME: Time = clock::ZERO_TIME;
+
+// The kinds' numbers.
+const START: u8 = 0;
+
+const ELECT: u8 = 1;
+
+const STEP_DOWN: u8 = 2;
+
+const HEARS: u8 = 3;
+
+const PULLS: u8 = 4;
+
+const ROLLS_BACK: u8 = 5;
+
+const WRITES: u8 = 6;
+
+const ADVANCES: u8 = 7;
+
+const WALL_CLOCK: u8 = 8;
+
+const RESTARTS: u8 = 9;
+
+const LOCAL_READ: u8 = 10;
+
+const MAJORITY_READ: u8 = 11;
+
+const ACKNOWLEDGED: u8 = 12;
+
+const CLOCKS_AGREE: u8 = 13;
+
+// The first byte of an answer that is no refusal.
+const DONE: u8 = 0;
+
+const REFUSALS: usize = 10;
+
+// The refusals in the order of their numbers, from 1.
+const IN_ORDER: [Refusal; REFUSALS] = [
+    Refusal::NotAFrame,
+    Refusal::IllFormed,
+    Refusal::OutOfRange,
+    Refusal::WrongRole,
+    Refusal::ConditionUnmet,
+    Refusal::LogFull,
+    Refusal::AtLimit,
+    Refusal::NotYet,
+    Refusal::BelowCommitPoint,
+    Refusal::NoSuchEntry,
+];
+
+fn frame_of(b: [u8; STEP_BYTES]) -> Frame
+    ensures { λ r. ⌜ r ≡ frameOf b ⌝ }
+{
+    let number = word(b[5], b[6]);
+    let term = word(b[7], b[8]);
+    let p = word(b[9], b[10]);
+    let l = word(b[11], b[12]);
+    let time = Time { p, l };
+    fields(b[0], b[1], b[2], b[3], b[4], number, term, time)
+}
+
+// The step that the kind makes of the fields that it uses.
+fn step_of(f: Frame) -> ReadStep
+    ensures { λ r. ⌜ r ≡ stepOf f ⌝ }
+{
+    let kind = f.kind;
+    let t = f.time;
+    match kind {
+        START => ReadStep::Step(Step::Start(f.a)),
+        ELECT => ReadStep::Step(Step::Elect(f.a, f.set)),
+        STEP_DOWN => ReadStep::Step(Step::StepDown(f.a)),
+        HEARS => ReadStep::Step(Step::Hears(f.a, f.b)),
+        PULLS => ReadStep::Step(Step::Pulls(f.a, f.b)),
+        ROLLS_BACK => ReadStep::Step(Step::RollsBack(f.a, f.b)),
+        WRITES => ReadStep::Step(Step::Writes(f.a, f.key, f.number)),
+        ADVANCES => ReadStep::Step(Step::Advances(f.a)),
+        WALL_CLOCK => ReadStep::Step(Step::WallClock(f.a)),
+        RESTARTS => ReadStep::Step(Step::Restarts(f.a)),
+        LOCAL_READ => ReadStep::Step(Step::LocalRead(f.a, f.key, t)),
+        MAJORITY_READ => ReadStep::Step(Step::MajorityRead(f.a, f.key, t)),
+        ACKNOWLEDGED => ReadStep::Step(Step::Acknowledged(f.a, f.set, f.number, f.term)),
+        CLOCKS_AGREE => ReadStep::Step(Step::ClocksAgree),
+        _ => ReadStep::NoFrame,
+    }
+}
+
+// The step whose frame has these bytes.
+fn step_in(b: [u8; STEP_BYTES]) -> ReadStep
+    ensures { λ r. ⌜ r ≡ stepIn b ⌝ }
+{
+    let kind = b[0] as usize;
+    if masks::KINDS <= kind {
+        return ReadStep::NoFrame;
+    }
+    if !masks::is_clean(kind, b) {
+        return ReadStep::NoFrame;
+    }
+    step_of(frame_of(b))
+}
+
+// The step whose frame the line is, of any bytes and of any length.
+pub fn read_step(line: &[u8]) -> ReadStep
+    ensures { λ r. ⌜ r ≡ readStep (now (line .entry)) ⌝ }
+{
+    if line.len() != STEP_CHARS {
+        return ReadStep::NoFrame;
+    }
+    if !hex::all_hex(line) {
+        return ReadStep::NoFrame;
+    }
+    let mut b = [0u8; STEP_BYTES];
+    hex::unhex(line, &mut b);
+    step_in(b)
+}
+
+// The same of characters that are as many as a step frame's.
+pub fn read_frame(chars: [u8; STEP_CHARS]) -> ReadStep
+    ensures { λ r. ⌜ r ≡ readStep chars ⌝ }
+{
+    read_step(&chars)
+}
+
+fn fields(kind: u8, a: u8, b: u8, set: u8, key: u8, number: u16, term: u16, time: Time) -> Frame
+    ensures { λ r. ⌜ r ≡ fields kind a b set key number term time ⌝ }
+{
+    Frame {
+        kind,
+        a,
+        b,
+        set,
+        key,
+        number,
+        term,
+        time,
+    }
+}
+
+// The fields that a step fills, all others zero.
+fn frame_for(s: Step) -> Frame
+    ensures { λ r. ⌜ r ≡ frameFor s ⌝ }
+{
+    match s {
+        Step::Start(a) => fields(START, a, 0, 0, 0, 0, 0, NO_TIME),
+        Step::Elect(a, set) => fields(ELECT, a, 0, set, 0, 0, 0, NO_TIME),
+        Step::StepDown(a) => fields(STEP_DOWN, a, 0, 0, 0, 0, 0, NO_TIME),
+        Step::Hears(a, b) => fields(HEARS, a, b, 0, 0, 0, 0, NO_TIME),
+        Step::Pulls(a, b) => fields(PULLS, a, b, 0, 0, 0, 0, NO_TIME),
+        Step::RollsBack(a, b) => fields(ROLLS_BACK, a, b, 0, 0, 0, 0, NO_TIME),
+        Step::Writes(a, key, value) => fields(WRITES, a, 0, 0, key, value, 0, NO_TIME),
+        Step::Advances(a) => fields(ADVANCES, a, 0, 0, 0, 0, 0, NO_TIME),
+        Step::WallClock(a) => fields(WALL_CLOCK, a, 0, 0, 0, 0, 0, NO_TIME),
+        Step::Restarts(a) => fields(RESTARTS, a, 0, 0, 0, 0, 0, NO_TIME),
+        Step::LocalRead(a, key, time) => fields(LOCAL_READ, a, 0, 0, key, 0, 0, time),
+        Step::MajorityRead(a, key, time) => fields(MAJORITY_READ, a, 0, 0, key, 0, 0, time),
+        Step::Acknowledged(a, n, at, term) => fields(ACKNOWLEDGED, a, 0, n, 0, at, term, NO_TIME),
+        Step::ClocksAgree => fields(CLOCKS_AGREE, 0, 0, 0, 0, 0, 0, NO_TIME),
+    }
+}
+
+fn bytes_of_frame(f: Frame) -> [u8; STEP_BYTES]
+    ensures { λ r. ⌜ r ≡ bytesOfFrame f ⌝ }
+{
+    let t = f.time;
+    [
+        f.kind,
+        f.a,
+        f.b,
+        f.set,
+        f.key,
+        high(f.number),
+        low(f.number),
+        high(f.term),
+        low(f.term),
+        high(t.p),
+        low(t.p),
+        high(t.l),
+        low(t.l),
+    ]
+}
+
+// The one frame of a step.
+pub fn write_step(s: Step) -> [u8; STEP_CHARS]
+    ensures { λ r. ⌜ r ≡ writeStep s ⌝ }
+{
+    let b = bytes_of_frame(frame_for(s));
+    let mut out = [0u8; STEP_CHARS];
+    hex::enhex(&b, &mut out);
+    out
+}
+
+fn refusal_number(r: Refusal) -> u8
+    ensures { λ n. ⌜ n ≡ refusalNumber r ⌝ }
+{
+    match r {
+        Refusal::NotAFrame => 1,
+        Refusal::IllFormed => 2,
+        Refusal::OutOfRange => 3,
+        Refusal::WrongRole => 4,
+        Refusal::ConditionUnmet => 5,
+        Refusal::LogFull => 6,
+        Refusal::AtLimit => 7,
+        Refusal::NotYet => 8,
+        Refusal::BelowCommitPoint => 9,
+        Refusal::NoSuchEntry => 10,
+    }
+}
+
+// The first byte of an answer frame.
+fn refusal_byte(t: Telling) -> u8
+    ensures { λ r. ⌜ r ≡ refusalByte t ⌝ }
+{
+    let Telling::Refusing(r) = t else {
+        return DONE;
+    };
+    refusal_number(r)
+}
+
+fn answer_frame(refusal: u8, number: u16, term: u16, time: Time) -> [u8; ANSWER_BYTES]
+    ensures { λ r. ⌜ r ≡ answerFrame refusal number term time ⌝ }
+{
+    [
+        refusal,
+        high(number),
+        low(number),
+        high(term),
+        low(term),
+        high(time.p),
+        low(time.p),
+        high(time.l),
+        low(time.l),
+    ]
+}
+
+// The numbers, or a refusal and zeros.
+fn bytes_of_telling(t: Telling) -> [u8; ANSWER_BYTES]
+    ensures { λ r. ⌜ r ≡ bytesOfTelling t ⌝ }
+{
+    let Telling::Numbers(number, term, time) = t else {
+        return answer_frame(refusal_byte(t), 0, 0, NO_TIME);
+    };
+    answer_frame(DONE, number, term, time)
+}
+
+// The one frame of an answer.
+pub fn write_answer(a: Answer) -> [u8; ANSWER_CHARS]
+    ensures { λ r. ⌜ r ≡ writeAnswer a ⌝ }
+{
+    let b = bytes_of_telling(steps::told(a));
+    let mut out = [0u8; ANSWER_CHARS];
+    hex::enhex(&b, &mut out);
+    out
+}
+
+// The refusal of a number.
+fn refusal_of(n: u8) -> ReadAnswer
+    ensures { λ r. ⌜ r ≡ refusalOf n ⌝ }
+{
+    let i = n as usize;
+    if i == 0 {
+        return ReadAnswer::NoFrame;
+    }
+    if REFUSALS < i {
+        return ReadAnswer::NoFrame;
+    }
+    ReadAnswer::Telling(Telling::Refusing(IN_ORDER[i - 1]))
+}
+
+// What the fields of an answer frame tell.
+fn telling_by(refusal: u8, number: u16, term: u16, time: Time) -> ReadAnswer
+    ensures { λ r. ⌜ r ≡ tellingBy refusal number term time ⌝ }
+{
+    if refusal == DONE {
+        return ReadAnswer::Telling(Telling::Numbers(number, term, time));
+    }
+    if number != 0 {
+        return ReadAnswer::NoFrame;
+    }
+    if term != 0 {
+        return ReadAnswer::NoFrame;
+    }
+    if !clock::same_time(time, NO_TIME) {
+        return ReadAnswer::NoFrame;
+    }
+    refusal_of(refusal)
+}
+
+fn telling_in(b: [u8; ANSWER_BYTES]) -> ReadAnswer
+    ensures { λ r. ⌜ r ≡ tellingIn b ⌝ }
+{
+    let number = word(b[1], b[2]);
+    let term = word(b[3], b[4]);
+    let p = word(b[5], b[6]);
+    let l = word(b[7], b[8]);
+    telling_by(b[0], number, term, Time { p, l })
+}
+
+// What the line tells, of any bytes and of any length.
+pub fn read_answer(line: &[u8]) -> ReadAnswer
+    ensures { λ r. ⌜ r ≡ readAnswer (now (line .entry)) ⌝ }
+{
+    if line.len() != ANSWER_CHARS {
+        return ReadAnswer::NoFrame;
+    }
+    if !hex::all_hex(line) {
+        return ReadAnswer::NoFrame;
+    }
+    let mut b = [0u8; ANSWER_BYTES];
+    hex::unhex(line, &mut b);
+    telling_in(b)
+}

@@ -1,0 +1,3 @@
+-- What hexadecimal digits and lines stand for. Assumes nothing.
+pub mod Digits
+pub mod Lines

@@ -1,0 +1,250 @@
+-- Whatever pieces a text arrives in, what is said is the answers to the text, and the record is the one that it leaves. Assumes nothing.
+use mathlib.Core.Path.{_≡_, refl, sym, ap, _∙_, subst}
+use mathlib.Core.Bool.{Bool, true, false, cond}
+use mathlib.Core.List.{List, [], _∷_, _++_, append-assoc, append-nil}
+use Prim.Native.Nat.{ℕ, zero, suc, _+_, _-_, _≤_, _<_}
+use native.Mathlib.Numerals.{add-one}
+use native.Mathlib.Omega.{arith}
+use borrow.Author.Tests.{lt-ltb, le-ltb, le-leb, lt-leb, eq-eqb, ne-eqb, eqb-true, ltb-true, ltb-false}
+use lib.Dec.{ltb, eqb, leb}
+use lib.ListN.{length, take, set, length-append, length-set, length-replicate}
+use lib.Seq.{take-suc-set, take-length}
+use Rattle.steps.specs.declared.Answer.{Answer}
+use Rattle.steps.specs.declared.Outcome.{Outcome}
+use Rattle.steps.specs.Answers.{tellingOf}
+use Rattle.frames.specs.Steps.{readStep}
+use Rattle.frames.specs.Answers.{writeAnswer}
+use Rattle.frames.specs.Lines.{framed}
+use Rattle.frames.proofs.Lengths.{answer-line-length}
+use Rattle.cluster.specs.declared.Cluster.{Cluster}
+use Rattle.replay.specs.declared.Reader.{Reader}
+use Rattle.replay.specs.declared.Session.{Session}
+use Rattle.replay.specs.declared.Fed.{Fed}
+use Rattle.replay.specs.Texts.{lineFeed, onLine, lines, answerTo, lineOf, answersTo, recordAfter, answers, leaves}
+use Rattle.replay.specs.Pieces.{kept, answerLine, tooLong, freshReader, begun, lineHeld, pushOf, after, said, runs, says, taking, isEmpty, ending, ended, fedOf}
+
+-- bytes with no line feed among them
+pub data Plain : List ℕ → Type 0 where
+  none : Plain []
+  more : {b : ℕ} {bs : List ℕ} → eqb b lineFeed ≡ false → Plain bs → Plain (b ∷ bs)
+
+plain-snoc : {p : List ℕ} (b : ℕ) → Plain p → eqb b lineFeed ≡ false → Plain (p ++ (b ∷ []))
+plain-snoc b none e = more e none
+plain-snoc b (more h r) e = more h (plain-snoc b r e)
+
+-- the lines of a text that begins with such bytes
+line-first : {p : List ℕ} (t : List ℕ) → Plain p → lines (p ++ (lineFeed ∷ t)) ≡ p ∷ lines t
+line-first t none = refl
+line-first t (more {b} {bs} e r) = ap (λ (x : Bool). onLine x b (lines (bs ++ (lineFeed ∷ t)))) e ∙ ap (onLine false b) (line-first t r)
+
+line-last : (b : ℕ) (bs : List ℕ) → eqb b lineFeed ≡ false → Plain bs → lines (b ∷ bs) ≡ (b ∷ bs) ∷ []
+line-last b [] e q = ap (λ (x : Bool). onLine x b []) e
+line-last b (d ∷ ds) e (more f r) = ap (λ (x : Bool). onLine x b (lines (d ∷ ds))) e ∙ ap (onLine false b) (line-last d ds f r)
+
+-- a reader stands for the bytes p that it was given since the last line feed
+pub data Holds : Reader → List ℕ → Type 0 where
+  fits : {r : Reader} {p : List ℕ} → r .over ≡ false → r .fill ≡ length p → length p ≤ kept → take (length p) (r .held) ≡ p → length (r .held) ≡ kept → Holds r p
+  long : {r : Reader} {p : List ℕ} → r .over ≡ true → kept ≤ r .fill → kept < length p → Holds r p
+
+fresh-holds : Holds freshReader []
+fresh-holds = fits {p = []} refl refl (omega arith) refl refl
+
+snoc-long : (p : List ℕ) (b : ℕ) → length (p ++ (b ∷ [])) ≡ length p + 1
+snoc-long p b = length-append p (b ∷ [])
+
+push-holds : {r : Reader} {p : List ℕ} (b : ℕ) → Holds r p → Holds (pushOf r b) (p ++ (b ∷ []))
+unfolding pushOf
+push-holds {r} {p} b (fits o f l t n) = go (ltb (r .fill) kept) refl
+  where
+    go : (x : Bool) → ltb (r .fill) kept ≡ x → Holds (cond x (record { held = set (r .held) (r .fill) b; fill = r .fill + 1; over = r .over }) (record { held = r .held; fill = r .fill; over = true })) (p ++ (b ∷ []))
+    go true e =
+        let h : r .fill < kept = ltb-true _ kept e in
+        fits {r = record { held = set (r .held) (r .fill) b; fill = r .fill + 1; over = r .over }} {p = p ++ (b ∷ [])} o (omega (arith, snoc-long p b)) (omega (arith, snoc-long p b))
+        (ap (λ (k : ℕ). take k (set (r .held) (r .fill) b)) (snoc-long p b ∙ add-one (length p) ∙ ap suc (sym f))
+        ∙ take-suc-set (r .held) (r .fill) b (omega arith) ∙ ap (λ (l : List ℕ). l ++ (b ∷ [])) (ap (λ (k : ℕ). take k (r .held)) f ∙ t))
+        (length-set (r .held) (r .fill) b ∙ n)
+    go false e = let h : kept ≤ r .fill = ltb-false _ kept e in long {p = p ++ (b ∷ [])} refl h (omega (arith, snoc-long p b))
+push-holds {r} {p} b (long o f l) = go (ltb (r .fill) kept) refl
+  where
+    go : (x : Bool) → ltb (r .fill) kept ≡ x → Holds (cond x (record { held = set (r .held) (r .fill) b; fill = r .fill + 1; over = r .over }) (record { held = r .held; fill = r .fill; over = true })) (p ++ (b ∷ []))
+    go true e = let h : r .fill < kept = ltb-true _ kept e in let z : ⊥ = omega arith in absurd z
+    go false e = long {p = p ++ (b ∷ [])} refl f (omega (arith, snoc-long p b))
+
+-- a line of another length than kept is refused like any other
+not-kept : (s : Cluster) (x y : List ℕ) → (length x ≡ kept → ⊥) → (length y ≡ kept → ⊥) → answerTo s x ≡ answerTo s y
+unfolding answerTo framed
+not-kept s x y p q = simp (ne-eqb _ kept p, ne-eqb _ kept q)
+
+held-answer : (s : Cluster) {r : Reader} {p : List ℕ} → Holds r p → answerTo s (lineHeld r) ≡ answerTo s p
+unfolding lineHeld
+held-answer s {r} {p} (fits o f l t n) =
+    ap (answerTo s) (simp (o, f, le-leb _ kept l) t)
+held-answer s {r} {p} (long o f l) =
+    let m : length p ≡ kept → ⊥ = λ e. omega arith in
+    simp o (not-kept s tooLong p (λ e. omega arith) m)
+
+held-empty : {r : Reader} → Holds r [] → isEmpty r ≡ true
+held-empty (fits o f l t n) = simp (o, f)
+held-empty (long o f l) = let z : ⊥ = omega arith in absurd z
+
+held-some : {r : Reader} {b : ℕ} {p : List ℕ} → Holds r (b ∷ p) → isEmpty r ≡ false
+held-some {r} {b} {p} (fits o f l t n) = simp (o, ne-eqb (r .fill) 0 (λ e. omega arith))
+held-some (long o f l) = simp o
+
+-- from any point of a line
+abbrev Right : List ℕ → Type 0
+Right text =
+    (s : Cluster) (r : Reader) (p : List ℕ) → Plain p → Holds r p
+    → says (record { cluster = s; reader = r }) text ++ ending (runs (record { cluster = s; reader = r }) text) ≡ answersTo s (lines (p ++ text))
+
+from : (text : List ℕ) → Right text
+unfolding ending after said
+from [] s r [] q h = simp (held-empty h)
+from [] s r (b ∷ p) (more e q) h =
+    simp (held-some h)
+    (ap (λ (x : Outcome). lineOf (x .answer)) (held-answer s h) ∙ sym (append-nil (lineOf (answerTo s (b ∷ p) .answer)))
+    ∙ sym (ap (answersTo s) (ap (λ (l : List ℕ). lines (b ∷ l)) (append-nil p) ∙ line-last b p e q)))
+from (b ∷ text) s r p q h = go (from text) (eqb b lineFeed) refl
+  where
+    d : Session
+    d = record { cluster = s; reader = r }
+
+    a : Outcome
+    a = answerTo s (lineHeld r)
+
+    go : Right text → (x : Bool) → eqb b lineFeed ≡ x
+        → cond x (lineOf (a .answer)) [] ++ says (cond x (begun (a .cluster)) (record { cluster = s; reader = pushOf r b })) text
+        ++ ending (runs (cond x (begun (a .cluster)) (record { cluster = s; reader = pushOf r b })) text) ≡ answersTo s (lines (p ++ (b ∷ text)))
+    go next true e =
+        append-assoc (lineOf (a .answer)) (says (begun (a .cluster)) text) (ending (runs (begun (a .cluster)) text))
+        ∙ ap (λ (l : List ℕ). lineOf (a .answer) ++ l) (next (a .cluster) freshReader [] none fresh-holds)
+        ∙ ap (λ (x : Outcome). lineOf (x .answer) ++ answersTo (x .cluster) (lines text)) (held-answer s h)
+        ∙ sym (ap (answersTo s) (ap (λ (k : ℕ). lines (p ++ (k ∷ text))) (eqb-true b lineFeed e) ∙ line-first text q))
+    go next false e =
+        next s (pushOf r b) (p ++ (b ∷ [])) (plain-snoc b q e) (push-holds b h)
+        ∙ ap (λ (l : List ℕ). answersTo s (lines l)) (append-assoc p (b ∷ []) text)
+
+-- THE THEOREM: byte by byte, what is said, with the end, is the answers to the text
+pub whole : (s : Cluster) (text : List ℕ) → says (begun s) text ++ ending (runs (begun s) text) ≡ answers s text
+whole s text = from text s freshReader [] none fresh-holds
+
+-- pieces, one after the other
+pub runs-append : (s : Session) (x y : List ℕ) → runs s (x ++ y) ≡ runs (runs s x) y
+runs-append s [] y = refl
+runs-append s (b ∷ x) y = runs-append (after s b) x y
+
+pub says-append : (s : Session) (x y : List ℕ) → says s (x ++ y) ≡ says s x ++ says (runs s x) y
+says-append s [] y = refl
+says-append s (b ∷ x) y =
+    ap (λ (l : List ℕ). said s b ++ l) (says-append (after s b) x y) ∙ sym (append-assoc (said s b) (says (after s b) x) (says (runs (after s b) x) y))
+
+abbrev pub together : List (List ℕ) → List ℕ
+together [] = []
+together (x ∷ xs) = x ++ together xs
+
+abbrev pub runsAll : Session → List (List ℕ) → Session
+runsAll s [] = s
+runsAll s (x ∷ xs) = runsAll (runs s x) xs
+
+abbrev pub saysAll : Session → List (List ℕ) → List ℕ
+saysAll s [] = []
+saysAll s (x ∷ xs) = says s x ++ saysAll (runs s x) xs
+
+runs-all : (s : Session) (xs : List (List ℕ)) → runsAll s xs ≡ runs s (together xs)
+runs-all s [] = refl
+runs-all s (x ∷ xs) = runs-all (runs s x) xs ∙ sym (runs-append s x (together xs))
+
+says-all : (s : Session) (xs : List (List ℕ)) → saysAll s xs ≡ says s (together xs)
+says-all s [] = refl
+says-all s (x ∷ xs) = ap (λ (l : List ℕ). says s x ++ l) (says-all (runs s x) xs) ∙ sym (says-append s x (together xs))
+
+-- THE THEOREM, for any pieces
+pub any-pieces : (s : Cluster) (xs : List (List ℕ)) → saysAll (begun s) xs ++ ending (runsAll (begun s) xs) ≡ answers s (together xs)
+any-pieces s xs =
+    ap (λ (l : List ℕ). l ++ ending (runsAll (begun s) xs)) (says-all (begun s) xs)
+    ∙ ap (λ (d : Session). says (begun s) (together xs) ++ ending d) (runs-all (begun s) xs) ∙ whole s (together xs)
+
+-- with room for a line, a byte is taken
+pub progress : (s : Session) (b : ℕ) (text : List ℕ) (room : ℕ) → answerLine ≤ room → 0 < taking s (b ∷ text) room
+progress s b text room h =
+    subst (λ (t : Bool). 0 < cond t 0 (suc (taking (after s b) text (room - length (said s b))))) (sym (le-ltb room answerLine h)) (omega arith)
+
+pub line-long : (a : Answer) → length (lineOf a) ≡ answerLine
+unfolding lineOf
+line-long a = length-append (writeAnswer a) (lineFeed ∷ []) ∙ ap (λ (k : ℕ). k + 1) (answer-line-length (tellingOf a))
+
+said-short : (s : Session) (b : ℕ) → length (said s b) ≤ answerLine
+unfolding said
+said-short s b = go (eqb b lineFeed)
+  where
+    go : (x : Bool) → length (cond x (lineOf (answerTo (s .cluster) (lineHeld (s .reader)) .answer)) []) ≤ answerLine
+    go true = omega (arith, line-long (answerTo (s .cluster) (lineHeld (s .reader)) .answer))
+    go false = omega arith
+
+-- no more is taken than there is, and no more is said than there is room for
+pub taken-fits : (s : Session) (text : List ℕ) (room : ℕ) → taking s text room ≤ length text
+taken-fits s [] room = omega arith
+taken-fits s (b ∷ text) room = go (ltb room answerLine) (taken-fits (after s b) text (room - length (said s b)))
+  where
+    go : (x : Bool) → taking (after s b) text (room - length (said s b)) ≤ length text
+        → cond x 0 (suc (taking (after s b) text (room - length (said s b)))) ≤ suc (length text)
+    go true h = omega arith
+    go false h = omega arith
+
+pub wrote-fits : (s : Session) (text : List ℕ) (room : ℕ) → length (says s (take (taking s text room) text)) ≤ room
+wrote-fits s [] room = omega arith
+wrote-fits s (b ∷ text) room = go (ltb room answerLine) refl (wrote-fits (after s b) text (room - length (said s b)))
+  where
+    n : ℕ
+    n = taking (after s b) text (room - length (said s b))
+
+    go : (x : Bool) → ltb room answerLine ≡ x → length (says (after s b) (take n text)) ≤ room - length (said s b) → length (says s (take (cond x 0 (suc n)) (b ∷ text))) ≤ room
+    go true e h = omega arith
+    go false e h = omega (arith, ltb-false room answerLine e, said-short s b, length-append (said s b) (says (after s b) (take n text)))
+
+pub record Within (r : Fed) (text : List ℕ) (room : ℕ) : Type 0 where
+  pub taken : r .taken ≤ length text
+  pub wrote : r .wrote ≤ room
+
+pub within : (s : Session) (text : List ℕ) (room : ℕ) (r : Fed) → r ≡ fedOf s text room → Within r text room
+unfolding fedOf
+within s text room r e =
+    record {
+      taken = subst (λ (k : ℕ). k ≤ length text) (sym (ap (λ (f : Fed). f .taken) e)) (taken-fits s text room);
+      wrote = subst (λ (k : ℕ). k ≤ room) (sym (ap (λ (f : Fed). f .wrote) e)) (wrote-fits s text room);
+    }
+
+-- ---- the record
+
+-- from any point of a line
+abbrev Leaves : List ℕ → Type 0
+Leaves text =
+    (s : Cluster) (r : Reader) (p : List ℕ) → Plain p → Holds r p → ended (runs (record { cluster = s; reader = r }) text) ≡ recordAfter s (lines (p ++ text))
+
+left : (text : List ℕ) → Leaves text
+unfolding ended after
+left [] s r [] q h = simp (held-empty h)
+left [] s r (b ∷ p) (more e q) h =
+    simp (held-some h)
+    (ap (λ (x : Outcome). x .cluster) (held-answer s h) ∙ sym (ap (recordAfter s) (ap (λ (l : List ℕ). lines (b ∷ l)) (append-nil p) ∙ line-last b p e q)))
+left (b ∷ text) s r p q h = go (left text) (eqb b lineFeed) refl
+  where
+    a : Outcome
+    a = answerTo s (lineHeld r)
+
+    go : Leaves text → (x : Bool) → eqb b lineFeed ≡ x
+        → ended (runs (cond x (begun (a .cluster)) (record { cluster = s; reader = pushOf r b })) text) ≡ recordAfter s (lines (p ++ (b ∷ text)))
+    go next true e =
+        next (a .cluster) freshReader [] none fresh-holds ∙ ap (λ (x : Outcome). recordAfter (x .cluster) (lines text)) (held-answer s h)
+        ∙ sym (ap (recordAfter s) (ap (λ (k : ℕ). lines (p ++ (k ∷ text))) (eqb-true b lineFeed e) ∙ line-first text q))
+    go next false e =
+        next s (pushOf r b) (p ++ (b ∷ [])) (plain-snoc b q e) (push-holds b h)
+        ∙ ap (λ (l : List ℕ). recordAfter s (lines l)) (append-assoc p (b ∷ []) text)
+
+-- byte by byte, the record with the end is the one that the text leaves
+pub whole-record : (s : Cluster) (text : List ℕ) → ended (runs (begun s) text) ≡ leaves s text
+whole-record s text = left text s freshReader [] none fresh-holds
+
+-- for any pieces
+pub any-pieces-record : (s : Cluster) (xs : List (List ℕ)) → ended (runsAll (begun s) xs) ≡ leaves s (together xs)
+any-pieces-record s xs = ap ended (runs-all (begun s) xs) ∙ whole-record s (together xs)

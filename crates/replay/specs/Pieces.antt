@@ -1,0 +1,102 @@
+-- A text byte by byte: a reader that keeps at most one frame's characters, and what it says on the way. Assumes nothing.
+use Prim.Native.Nat.{ℕ, suc, _+_, _-_, _*_}
+use mathlib.Core.Bool.{Bool, true, false, cond}
+use mathlib.Core.List.{List, [], _∷_, _++_}
+use lib.Dec.{ltb, leb, eqb}
+use lib.ListN.{length, take, drop, set, replicate}
+use Rattle.cluster.specs.declared.Cluster.{Cluster}
+use Rattle.frames.specs.Layout.{stepBytes}
+use Rattle.frames.specs.Answers.{answerBytes}
+use Rattle.hex.specs.Lines.{chars}
+use Rattle.replay.specs.declared.Reader.{Reader}
+use Rattle.replay.specs.declared.Session.{Session}
+use Rattle.replay.specs.declared.Fed.{Fed}
+use Rattle.replay.specs.declared.Finished.{Finished}
+use Rattle.replay.specs.Texts.{lineFeed, answerTo, lineOf}
+
+-- the characters of a step frame, and the length of an answer line
+abbrev pub kept : ℕ
+kept = chars * stepBytes
+
+abbrev pub answerLine : ℕ
+answerLine = chars * answerBytes + 1
+
+abbrev pub freshReader : Reader
+freshReader = record { held = replicate kept 0; fill = 0; over = false }
+
+-- the record with a reader that has read nothing of a line
+abbrev pub begun : Cluster → Session
+begun c = record { cluster = c; reader = freshReader }
+
+-- some line that is too long
+abbrev pub tooLong : List ℕ
+tooLong = replicate (suc kept) 0
+
+-- the line that a reader stands for
+unfoldable pub lineHeld : Reader → List ℕ
+lineHeld r = cond (r .over) tooLong (cond (leb (r .fill) kept) (take (r .fill) (r .held)) tooLong)
+
+-- one character more; past a frame's length only that there were more is remembered
+unfoldable pub pushOf : Reader → ℕ → Reader
+pushOf r b =
+    cond (ltb (r .fill) kept) (record { held = set (r .held) (r .fill) b; fill = r .fill + 1; over = r .over })
+    (record { held = r .held; fill = r .fill; over = true })
+
+-- after one byte: the session, and what is said
+unfoldable pub after : Session → ℕ → Session
+after s b =
+    cond (eqb b lineFeed) (begun (answerTo (s .cluster) (lineHeld (s .reader)) .cluster))
+    (record { cluster = s .cluster; reader = pushOf (s .reader) b })
+
+unfoldable pub said : Session → ℕ → List ℕ
+said s b = cond (eqb b lineFeed) (lineOf (answerTo (s .cluster) (lineHeld (s .reader)) .answer)) []
+
+abbrev pub runs : Session → List ℕ → Session
+runs s [] = s
+runs s (b ∷ bs) = runs (after s b) bs
+
+abbrev pub says : Session → List ℕ → List ℕ
+says s [] = []
+says s (b ∷ bs) = said s b ++ says (after s b) bs
+
+-- how many bytes are taken while there is room for an answer line
+abbrev pub taking : Session → List ℕ → ℕ → ℕ
+taking s [] room = 0
+taking s (b ∷ bs) room = cond (ltb room answerLine) 0 (suc (taking (after s b) bs (room - length (said s b))))
+
+unfoldable pub fedOf : Session → List ℕ → ℕ → Fed
+fedOf s text room =
+    record {
+      session = runs s (take (taking s text room) text);
+      taken = taking s text room;
+      wrote = length (says s (take (taking s text room) text));
+    }
+
+-- a list with another put in at a place
+abbrev pub placed : List ℕ → ℕ → List ℕ → List ℕ
+placed out at xs = take at out ++ xs ++ drop (at + length xs) out
+
+-- what was said, and the rest of the buffer as it was
+unfoldable pub fedOut : Session → List ℕ → List ℕ → List ℕ
+fedOut s text out = placed out 0 (says s (take (taking s text (length out)) text))
+
+-- nothing of a line was read
+abbrev pub isEmpty : Reader → Bool
+isEmpty r = cond (r .over) false (eqb (r .fill) 0)
+
+-- the end of a text: a rest counts if it isn't empty, and the reader is fresh again
+unfoldable pub ending : Session → List ℕ
+ending s = cond (isEmpty (s .reader)) [] (lineOf (answerTo (s .cluster) (lineHeld (s .reader)) .answer))
+
+unfoldable pub ended : Session → Cluster
+ended s = cond (isEmpty (s .reader)) (s .cluster) (answerTo (s .cluster) (lineHeld (s .reader)) .cluster)
+
+-- where there is no room for the answer, nothing is done
+unfoldable pub finishOf : Session → ℕ → Finished
+finishOf s room =
+    cond (isEmpty (s .reader)) (record { session = begun (s .cluster); wrote = 0; ended = true })
+    (cond (ltb room answerLine) (record { session = s; wrote = 0; ended = false })
+    (record { session = begun (ended s); wrote = answerLine; ended = true }))
+
+unfoldable pub finishOut : Session → List ℕ → List ℕ
+finishOut s out = cond (ltb (length out) answerLine) out (placed out 0 (ending s))

@@ -1,0 +1,53 @@
+-- What a line is to do to the record: nothing, one server, or the whole record. Assumes nothing.
+use Prim.Native.Nat.{ℕ}
+use mathlib.Core.Bool.{Bool, cond, _||_}
+use lib.Dec.{eqb, ltb}
+use Rattle.cluster.specs.declared.Cluster.{Cluster}
+use Rattle.cluster.specs.Servers.{serverAt}
+use Rattle.steps.specs.declared.Outcome.{Outcome}
+use Rattle.steps.specs.declared.Refusal.the-variants.{NotAFrame, IllFormed, OutOfRange}
+use Rattle.steps.specs.declared.Step.{Step}
+use Rattle.steps.specs.declared.Step.the-variants as S
+use Rattle.steps.specs.Answers.{refusingAll}
+use Rattle.frames.specs.declared.ReadStep.{ReadStep}
+use Rattle.frames.specs.declared.ReadStep.the-variants as R
+use Rattle.rules.specs.Rules.{isStart, putBack, coreOf}
+use Rattle.rules.specs.One.{oneOf}
+use Rattle.replay.specs.declared.Plan.{Plan}
+use Rattle.replay.specs.declared.Plan.the-variants.{Refuse, Server, Record}
+
+-- one server, whose number is in range
+unfoldable pub alone : ℕ → ℕ → Step → Plan
+alone size a s = cond (ltb a size) (Server a a s) (Refuse OutOfRange)
+
+-- two servers, not the same
+unfoldable pub apart : ℕ → ℕ → ℕ → Step → Plan
+apart size a b s =
+    cond (ltb a size) (cond (ltb b size) (cond (eqb a b) (Refuse OutOfRange) (Server a b s)) (Refuse OutOfRange)) (Refuse OutOfRange)
+
+unfoldable pub placeOf : ℕ → Step → Plan
+placeOf size (S.Start n) = Record (S.Start n)
+placeOf size (S.Elect a m) = Record (S.Elect a m)
+placeOf size (S.StepDown a) = alone size a (S.StepDown a)
+placeOf size (S.Hears a b) = apart size a b (S.Hears a b)
+placeOf size (S.Pulls a b) = apart size a b (S.Pulls a b)
+placeOf size (S.RollsBack a b) = apart size a b (S.RollsBack a b)
+placeOf size (S.Writes a key value) = alone size a (S.Writes a key value)
+placeOf size (S.Advances a) = Record (S.Advances a)
+placeOf size (S.WallClock a) = alone size a (S.WallClock a)
+placeOf size (S.Restarts a) = alone size a (S.Restarts a)
+placeOf size (S.LocalRead a key asked) = alone size a (S.LocalRead a key asked)
+placeOf size (S.MajorityRead a key asked) = alone size a (S.MajorityRead a key asked)
+placeOf size (S.Acknowledged a k n term) = Record (S.Acknowledged a k n term)
+placeOf size S.ClocksAgree = Record S.ClocksAgree
+
+-- refusal 1, then 2, then the step
+unfoldable pub planOf : ℕ → Bool → ReadStep → Plan
+planOf size formed (R.Step s) = cond (isStart s || formed) (placeOf size s) (Refuse IllFormed)
+planOf size formed R.NoFrame = Refuse NotAFrame
+
+-- what is done
+unfoldable pub carriedOut : Cluster → Plan → Outcome
+carriedOut c (Refuse r) = refusingAll c r
+carriedOut c (Server a b s) = putBack c a (oneOf (serverAt c a) (serverAt c b) s)
+carriedOut c (Record s) = coreOf c s

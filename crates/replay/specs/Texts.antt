@@ -1,0 +1,56 @@
+-- A text, its lines and their answers, with nothing about how it arrives. Assumes nothing.
+use Prim.Native.Nat.{ℕ}
+use mathlib.Core.Bool.{Bool, true, false}
+use mathlib.Core.List.{List, [], _∷_, _++_}
+use lib.Dec.{eqb}
+use Rattle.cluster.specs.declared.Cluster.{Cluster}
+use Rattle.steps.specs.declared.Answer.{Answer}
+use Rattle.steps.specs.declared.Outcome.{Outcome}
+use Rattle.steps.specs.declared.Refusal.the-variants.{NotAFrame}
+use Rattle.steps.specs.Answers.{refusingAll}
+use Rattle.rules.specs.Rules.{stepOf}
+use Rattle.frames.specs.declared.ReadStep.{ReadStep}
+use Rattle.frames.specs.declared.ReadStep.the-variants.{Step, NoFrame}
+use Rattle.frames.specs.Steps.{readStep}
+use Rattle.frames.specs.Answers.{writeAnswer}
+
+abbrev pub lineFeed : ℕ
+lineFeed = 10
+
+-- a line is what stands before a line feed; a last line without one counts if it isn't empty
+abbrev pub onLine : Bool → ℕ → List (List ℕ) → List (List ℕ)
+onLine true b ls = [] ∷ ls
+onLine false b [] = (b ∷ []) ∷ []
+onLine false b (l ∷ ls) = (b ∷ l) ∷ ls
+
+abbrev pub lines : List ℕ → List (List ℕ)
+lines [] = []
+lines (b ∷ bs) = onLine (eqb b lineFeed) b (lines bs)
+
+-- what a line gives: its step, or refusal 1
+unfoldable pub respond : Cluster → ReadStep → Outcome
+respond c (Step s) = stepOf c s
+respond c NoFrame = refusingAll c NotAFrame
+
+unfoldable pub answerTo : Cluster → List ℕ → Outcome
+answerTo c line = respond c (readStep line)
+
+-- an answer's line ends in a line feed
+unfoldable pub lineOf : Answer → List ℕ
+lineOf a = writeAnswer a ++ (lineFeed ∷ [])
+
+-- each line is answered in turn, the record carried along
+abbrev pub answersTo : Cluster → List (List ℕ) → List ℕ
+answersTo c [] = []
+answersTo c (l ∷ ls) = lineOf (answerTo c l .answer) ++ answersTo (answerTo c l .cluster) ls
+
+abbrev pub recordAfter : Cluster → List (List ℕ) → Cluster
+recordAfter c [] = c
+recordAfter c (l ∷ ls) = recordAfter (answerTo c l .cluster) ls
+
+-- the answers to a text, and the record that it leaves
+abbrev pub answers : Cluster → List ℕ → List ℕ
+answers c text = answersTo c (lines text)
+
+abbrev pub leaves : Cluster → List ℕ → Cluster
+leaves c text = recordAfter c (lines text)

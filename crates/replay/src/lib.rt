@@ -1,0 +1,297 @@
+// Texts: one answer line for each line, in whatever pieces the text arrives.
+ghost use mathlib.Core.Path.{_≡_};
+ghost use Prim.Native.Nat.{_≤_, _+_};
+ghost use lib.ListN.{length};
+ghost use Rattle.frames.specs.Steps.{readStep};
+ghost use Rattle.replay.specs.Texts.{respond, lineOf};
+ghost use Rattle.replay.specs.Pieces.{answerLine, freshReader, begun, lineHeld, pushOf, placed, isEmpty, fedOf, fedOut, finishOf, finishOut};
+ghost use Rattle.replay.specs.Plans.{alone, apart, placeOf, planOf, carriedOut};
+use cluster::Cluster;
+use frames::ReadStep;
+use steps::Answer;
+use steps::Outcome;
+use steps::Refusal;
+use steps::Step;
+
+const LINE_FEED: u8 = 10;
+
+// How many bytes an answer line has.
+pub const ANSWER_LINE: usize = frames::ANSWER_CHARS + 1;
+
+// The line that is being read: at most a frame's characters, how many there are, and whether there were more.
+pub struct Reader {
+    pub held: [u8; frames::STEP_CHARS],
+    pub fill: usize,
+    pub over: bool,
+}
+
+// The record, and the line that is being read.
+pub struct Session {
+    pub cluster: Cluster,
+    pub reader: Reader,
+}
+
+pub struct Fed {
+    pub session: Session,
+    pub taken: usize,
+    pub wrote: usize,
+}
+
+pub struct Finished {
+    pub session: Session,
+    pub wrote: usize,
+    pub ended: bool,
+}
+
+// What a line is to do to the record: refuse, step one server that looks at another, or step the whole record.
+pub enum Plan {
+    Refuse(Refusal),
+    Server(usize, usize, Step),
+    Record(Step),
+}
+
+fn fresh_reader() -> Reader
+    ensures { λ r. ⌜ r ≡ freshReader ⌝ }
+{
+    Reader {
+        held: [0; frames::STEP_CHARS],
+        fill: 0,
+        over: false,
+    }
+}
+
+// The record with a reader that has read nothing.
+pub fn begin(c: Cluster) -> Session
+    ensures { λ r. ⌜ r ≡ begun c ⌝ }
+{
+    let r = fresh_reader();
+    Session {
+        cluster: c,
+        reader: r,
+    }
+}
+
+// The reader with one character more.
+pub fn pushed(r: Reader, b: u8) -> Reader
+    ensures { λ q. ⌜ q ≡ pushOf r b ⌝ }
+{
+    let at = r.fill;
+    let mut q = r;
+    if at < frames::STEP_CHARS {
+        q.held[at] = b;
+        q.fill = at + 1;
+        return q;
+    }
+    q.over = true;
+    q
+}
+
+// The step of the line that was read.
+pub fn step_held(r: Reader) -> ReadStep
+    ensures { λ q. ⌜ q ≡ readStep (lineHeld r) ⌝ }
+{
+    if r.over {
+        return ReadStep::NoFrame;
+    }
+    if r.fill != frames::STEP_CHARS {
+        return ReadStep::NoFrame;
+    }
+    let b = r.held;
+    frames::read_frame(b)
+}
+
+fn plan_alone(size: usize, a: usize, s: Step) -> Plan
+    ensures { λ r. ⌜ r ≡ alone size a s ⌝ }
+{
+    if a < size { Plan::Server(a, a, s) } else { Plan::Refuse(Refusal::OutOfRange) }
+}
+
+fn plan_apart(size: usize, a: usize, b: usize, s: Step) -> Plan
+    ensures { λ r. ⌜ r ≡ apart size a b s ⌝ }
+{
+    if size <= a {
+        return Plan::Refuse(Refusal::OutOfRange);
+    }
+    if size <= b {
+        return Plan::Refuse(Refusal::OutOfRange);
+    }
+    if a == b {
+        return Plan::Refuse(Refusal::OutOfRange);
+    }
+    Plan::Server(a, b, s)
+}
+
+// Which servers a step is about.
+fn place(size: usize, s: Step) -> Plan
+    ensures { λ r. ⌜ r ≡ placeOf size s ⌝ }
+{
+    match s {
+        Step::Start(_) => Plan::Record(s),
+        Step::Elect(_, _) => Plan::Record(s),
+        Step::StepDown(a) => plan_alone(size, a as usize, s),
+        Step::Hears(a, b) => plan_apart(size, a as usize, b as usize, s),
+        Step::Pulls(a, b) => plan_apart(size, a as usize, b as usize, s),
+        Step::RollsBack(a, b) => plan_apart(size, a as usize, b as usize, s),
+        Step::Writes(a, _, _) => plan_alone(size, a as usize, s),
+        Step::Advances(_) => Plan::Record(s),
+        Step::WallClock(a) => plan_alone(size, a as usize, s),
+        Step::Restarts(a) => plan_alone(size, a as usize, s),
+        Step::LocalRead(a, _, _) => plan_alone(size, a as usize, s),
+        Step::MajorityRead(a, _, _) => plan_alone(size, a as usize, s),
+        Step::Acknowledged(_, _, _, _) => Plan::Record(s),
+        Step::ClocksAgree => Plan::Record(s),
+    }
+}
+
+// What a line that reads so is to do to a record of so many servers, well formed or not.
+pub fn plan_for(size: usize, formed: bool, read: ReadStep) -> Plan
+    ensures { λ r. ⌜ r ≡ planOf size formed read ⌝ }
+{
+    let ReadStep::Step(s) = read else {
+        return Plan::Refuse(Refusal::NotAFrame);
+    };
+    if formed {
+        return place(size, s);
+    }
+    if rules::is_start(s) {
+        return place(size, s);
+    }
+    Plan::Refuse(Refusal::IllFormed)
+}
+
+fn copy_in(src: &[u8], dst: &mut [u8], at: usize)
+    requires { ⌜ at + length (now src) ≤ length (now dst) ⌝ }
+    ensures { λ _. ⌜ now (dst .exit) ≡ placed (now (dst .entry)) at (now (src .entry)) ⌝ }
+{
+    let mut j: usize = 0;
+    while j < src.len() {
+        dst[at + j] = src[j];
+        j += 1;
+    }
+}
+
+// An answer line, written at a place of the buffer.
+fn put(out: &mut [u8], at: usize, a: Answer)
+    requires { ⌜ at + answerLine ≤ length (now out) ⌝ }
+    ensures { λ _. ⌜ now (out .exit) ≡ placed (now (out .entry)) at (lineOf a) ⌝ }
+{
+    let f = frames::write_answer(a);
+    copy_in(&f, out, at);
+    out[at + frames::ANSWER_CHARS] = LINE_FEED;
+}
+
+// Takes bytes of the text while the buffer has room for an answer line. The record stays in a local: one server is replaced a step.
+pub fn feed(s: Session, text: &[u8], out: &mut [u8]) -> Fed
+    ensures result { λ r. ⌜ r ≡ fedOf s (now (text .entry)) (length (now (out .entry))) ⌝ }
+    ensures output { λ _. ⌜ now (out .exit) ≡ fedOut s (now (text .entry)) (now (out .entry)) ⌝ }
+{
+    let mut c = s.cluster;
+    let mut r = s.reader;
+    let mut w: usize = 0;
+    let mut i: usize = 0;
+    while i < text.len() {
+        if out.len() - w < ANSWER_LINE {
+            return Fed {
+                session: Session {
+                    cluster: c,
+                    reader: r,
+                },
+                taken: i,
+                wrote: w,
+            };
+        }
+        let b = text[i];
+        i += 1;
+        if b != LINE_FEED {
+            r = pushed(r, b);
+            continue;
+        }
+        let read = step_held(r);
+        r = fresh_reader();
+        let p = plan_for(cluster::server_count(c.count), cluster::well_formed(c), read);
+        let mut answer = Answer::Done;
+        match p {
+            Plan::Refuse(x) => {
+                answer = Answer::Refused(x);
+            }
+            Plan::Server(a, b, step) => {
+                let x = c.servers[a];
+                let y = c.servers[b];
+                let o = rules::one(x, y, step);
+                let d = o.server;
+                c.servers[a] = d;
+                let q = o.answer;
+                answer = q;
+            }
+            Plan::Record(step) => {
+                let o = rules::core(c, step);
+                let d = o.cluster;
+                c = d;
+                let q = o.answer;
+                answer = q;
+            }
+        }
+        put(out, w, answer);
+        w += ANSWER_LINE;
+    }
+    Fed {
+        session: Session {
+            cluster: c,
+            reader: r,
+        },
+        taken: i,
+        wrote: w,
+    }
+}
+
+// Whether nothing of a line was read.
+pub fn is_empty(r: Reader) -> bool
+    ensures { λ q. ⌜ q ≡ isEmpty r ⌝ }
+{
+    if r.over {
+        return false;
+    }
+    r.fill == 0
+}
+
+// The record and the answer after a line that reads so.
+pub fn respond_to(c: Cluster, read: ReadStep) -> Outcome
+    ensures { λ r. ⌜ r ≡ respond c read ⌝ }
+{
+    let ReadStep::Step(s) = read else {
+        return steps::refuse_all(c, Refusal::NotAFrame);
+    };
+    rules::step(c, s)
+}
+
+// The end of the text: a rest without a line feed counts if it isn't empty, and the reader is fresh again.
+pub fn finish(s: Session, out: &mut [u8]) -> Finished
+    ensures result { λ r. ⌜ r ≡ finishOf s (length (now (out .entry))) ⌝ }
+    ensures output { λ _. ⌜ now (out .exit) ≡ finishOut s (now (out .entry)) ⌝ }
+{
+    let r = s.reader;
+    let c = s.cluster;
+    if is_empty(r) {
+        return Finished {
+            session: begin(c),
+            wrote: 0,
+            ended: true,
+        };
+    }
+    if out.len() < ANSWER_LINE {
+        return Finished {
+            session: s,
+            wrote: 0,
+            ended: false,
+        };
+    }
+    let o = respond_to(c, step_held(r));
+    let a = o.answer;
+    let d = o.cluster;
+    put(out, 0, a);
+    Finished {
+        session: begin(d),
+        wrote: ANSWER_LINE,
+        ended: true,
+    }
+}

@@ -1,0 +1,23 @@
+-- The laws and proofs of the safety theory, and of the records that are joined to it: `Promise` has demand 3.
+-- Assumes nothing.
+pub mod Quorum
+pub mod Time
+pub mod Leads
+pub mod Inv
+pub mod Moves
+pub mod Quiet
+pub mod Passes
+pub mod Elects
+pub mod Writes
+pub mod Takes
+pub mod Reached
+pub mod Demand3
+pub mod Joins
+pub mod Views
+pub mod SeenQuiet
+pub mod SeenTakes
+pub mod SeenWrites
+pub mod SeenMajorities
+pub mod Stepped
+pub mod Promise
+pub mod Example

@@ -1,0 +1,180 @@
+-- Demand 3 over the steps as 01 defines them.
+-- Assumes nothing.
+use mathlib.Core.Path.{_≡_, refl, ap, sym, _∙_}
+use mathlib.Core.Bool.{true, false}
+use mathlib.Core.Logic.{by-cases}
+use mathlib.Core.List.{List, [], _∷_}
+use Prim.Native.Nat.{ℕ, _<_, _≤_}
+use native.Mathlib.Decide.{decLe}
+use native.Mathlib.Omega.{arith}
+use lib.ListN.{length}
+use lib.Seq.{length-take-le}
+use lib.Dec.{ltb}
+use borrow.Author.Tests.{ltb-true, not-true}
+use Rattle.clock.specs.declared.Time.{Time}
+use Rattle.clock.specs.Times.{isBefore}
+use Rattle.clock.proofs.Order.{not-after-trans}
+use Rattle.log.specs.declared.Entry.{Entry}
+use Rattle.log.specs.Entries.{latestValue}
+use Rattle.log.specs.Logs.{live, lengthOf}
+use Rattle.log.specs.Ranges.{FitsLog}
+use Rattle.log.proofs.Latest.{found, latest-found, found-le, found-key, found-last}
+use Rattle.log.proofs.Live.{entryAt-take}
+use Rattle.cluster.specs.declared.Server.{Server}
+use Rattle.cluster.specs.declared.Cluster.{Cluster}
+use Rattle.cluster.specs.Ranges.{Fits}
+use Rattle.cluster.specs.Servers.{serverCount, serverAt, freshCluster}
+use Rattle.cluster.proofs.Fresh.{fits-fresh}
+use Rattle.steps.specs.declared.Step.{Step}
+use Rattle.steps.specs.declared.Step.the-variants.{MajorityRead}
+use Rattle.steps.specs.declared.Answer.{Answer}
+use Rattle.steps.specs.declared.Answer.the-variants.{Value, Refused}
+use Rattle.steps.specs.declared.Refusal.{Refusal}
+use Rattle.steps.specs.declared.Outcome.{Outcome}
+use Rattle.steps.specs.Ranges.{FitsStep}
+use Rattle.singles.specs.Reads.{commitTime, covered}
+use Rattle.rules.specs.Rules.{rulesOf, doneOf, stepOf}
+use Rattle.rules.specs.Runs.{runOf}
+use Rattle.rules.proofs.Keeps.{step-fits}
+use Rattle.safety.specs.Cluster.{Holds}
+use Rattle.safety.specs.Steps.{Walk, stop, go}
+use Rattle.safety.specs.Demand3.{LastFor, Demand3}
+use Rattle.safety.specs.Time.{stamp}
+use Rattle.safety.specs.View.{seenServer, view}
+use Rattle.safety.specs.Promise.{StepsFrom, Never9, entryOf, firstOf, holds, Shows, Kept, momentOf, Promised}
+use Rattle.safety.proofs.Quorum.{majorities, majority-count}
+use Rattle.safety.proofs.Time.{stamp-before, not-before-stamp}
+use Rattle.safety.proofs.Joins.{walk-on, commit-within}
+use Rattle.safety.proofs.Demand3.{demand3}
+use Rattle.safety.proofs.Views.{fresh-seen, fits-time, same-entry, holds-beginning}
+use Rattle.safety.proofs.Stepped.{Comes, comes, done, ill, broken, Now, step-next, never-9}
+
+-- ---- a read that is answered
+
+-- the position that a read at s looks at is that of the last entry for the key
+found-is : (s : Server) (key p : ℕ) → 1 ≤ p → s .commit ≤ lengthOf (s .log) → LastFor (seenServer s .log) key (s .commit) p → found key (covered s) ≡ p
+found-is s key p one within h =
+    by-cases (decLe (found key es) p) (λ l. by-cases (decLe p (found key es)) (λ m. omega arith) (λ m. absurd (lower (omega arith)))) (λ l. absurd (higher (omega arith)))
+  where
+    es : List Entry
+    es = covered s
+
+    long : length es ≡ s .commit
+    long = length-take-le (s .commit) (live (s .log)) within
+
+    lower : found key es < p → ⊥
+    lower l = found-last key es p l (omega (arith, long, h .within)) (ap (λ (e : Entry). e .key) (entryAt-take (s .commit) p (live (s .log)) (h .within)) ∙ h .key)
+
+    higher : p < found key es → ⊥
+    higher l =
+        let f : found key es ≤ s .commit = omega (arith, found-le key es, long) in
+        h .last (found key es) l f
+        (ap (λ (e : Entry). e .key) (sym (entryAt-take (s .commit) (found key es) (live (s .log)) f)) ∙ found-key key es (omega arith))
+
+value-of : {d e : Entry} → d ≡ e → d .value ≡ e .value
+value-of q = ap (λ (e : Entry). e .value) q
+
+-- what a read gives where it is answered
+record Answered (c : Cluster) (q key : ℕ) (asked : Time) (v : ℕ) : Type 0 where
+  below : ltb q (serverCount c) ≡ true
+  reached : isBefore (commitTime (serverAt c q)) asked ≡ false
+  value : latestValue key (covered (serverAt c q)) ≡ v
+
+answered : (c : Cluster) (q key : ℕ) (asked : Time) (v : ℕ) (t : Time) → stepOf c (MajorityRead q key asked) .answer ≡ Value v t → Answered c q key asked v
+unfolding rulesOf doneOf
+answered c q key asked v t a = go (comes c (MajorityRead q key asked))
+  where
+    answers : {o : Outcome} → stepOf c (MajorityRead q key asked) ≡ o → o .answer ≡ Value v t
+    answers e = sym (ap (λ (o : Outcome). o .answer) e) ∙ a
+
+    refused : {r : Refusal} → _≡_ {A = Answer} (Refused r) (Value v t) → Answered c q key asked v
+    refused e = let z : _≡_ {A = ℕ} 0 1 = cc in absurd (omega arith)
+
+    go : Comes c (MajorityRead q key asked) → Answered c q key asked v
+    go (done wf h e) = record { below = h .0; reached = not-true _ (h .1 .1 .0); value = cc (answers e) }
+    go (ill e) = refused (answers e)
+    go (broken r wf b e) = refused (answers e)
+
+-- ---- what is covered once
+
+module _ {n : ℕ} {some : 0 < n} {x y : Cluster} (X : Now n some x) (Y : Now n some y) (w : Walk (majorities n some) (view x) (view y))
+    (s k : ℕ) (hs : s < n) (one : 1 ≤ k) (cov : k ≤ serverAt x s .commit) where
+  log-x : FitsLog (serverAt x s .log)
+  log-x = X .fits .each s (omega (arith, X .few)) .log
+
+  log-y : (i : ℕ) → i < n → FitsLog (serverAt y i .log)
+  log-y i h = Y .fits .each i (omega (arith, Y .few)) .log
+
+  long : k ≤ lengthOf (serverAt x s .log)
+  long = omega (arith, commit-within (fresh-seen n) (X .walk) s)
+
+  seen : Demand3 (majorities n some) (view x) (view y) s k
+  seen = demand3 (fresh-seen n) (X .walk) w s k cov
+
+  held : (i : ℕ) → i < n → Holds k (view x s .log) (view y i) → holds y (firstOf x s k) i ≡ true
+  held i h = holds-beginning (serverAt x s) (serverAt y i) log-x (log-y i h) long
+
+  shown : (q : ℕ) (asked : Time) (v : ℕ) → isBefore asked (entryOf x s k .time) ≡ false → Answered y q (entryOf x s k .key) asked v → Shows y q (entryOf x s k) k v
+  shown q asked v late a =
+      let e = entryOf x s k in
+      let t = serverAt y q in
+      let hq : q < n = omega (arith, ltb-true q (serverCount y) (a .below), Y .counted) in
+      let in-time = not-before-stamp (e .time) (commitTime t) (fits-time (serverAt x s .log) log-x k)
+      (not-after-trans (e .time) asked (commitTime t) late (a .reached)) in
+      let S = seen .reads q (stamp (e .time)) (omega arith) in-time in
+      let p = S .found in
+      let f = found-is t (e .key) p (omega (arith, S .from)) (commit-within (fresh-seen n) (Y .walk) q) (S .read) in
+      record {
+        position = p;
+        from = S .from;
+        covered = S .read .within;
+        key = S .read .key;
+        value = value-of (sym (entryAt-take (t .commit) p (live (t .log)) (S .read .within))) ∙ sym (rw f at (latest-found (e .key) (covered t))) ∙ a .value;
+        same = λ z. same-entry (entryOf y q p) e (fits-time (t .log) (log-y q hq) p) (fits-time (serverAt x s .log) log-x k) (S .same z);
+        newer = λ l. stamp-before (e .time) (entryOf y q p .time) (fits-time (t .log) (log-y q hq) p) (S .newer l);
+      }
+
+  kept-in : Kept x y s k
+  kept-in =
+      record {
+        whole = length-take-le k (live (serverAt x s .log)) long;
+        majority = rw (Y .counted) (majority-count n (holds y (firstOf x s k)) _ held (seen .majority));
+        primaries = λ i l p t. held i (omega (arith, Y .counted)) (seen .primaries i p t);
+        commits = λ i l h. held i (omega (arith, Y .counted)) (seen .commits i h);
+        reads = λ q asked v t late a. shown q asked v late (answered y q _ asked v t a);
+      }
+
+-- ---- runs
+
+-- what steps lead to, and that none of them got refusal 9
+record Ran (n : ℕ) (some : 0 < n) (c : Cluster) (r : List Step) : Type 0 where
+  now : Now n some (runOf c r)
+  walk : Walk (majorities n some) (view c) (view (runOf c r))
+  never : Never9 c r
+
+ran : {n : ℕ} {some : 0 < n} (c : Cluster) → Now n some c → (r : List Step) → StepsFrom c r → Ran n some c r
+ran c N [] h = record { now = N; walk = stop; never = tt }
+ran {n} {some} c N (s ∷ r) h =
+    let X = step-next N s (h .0) (h .1) in
+    let M : Now n some (stepOf c s .cluster) = record {
+      fits = step-fits c s (N .fits) (h .0);
+      counted = X .counted ∙ N .counted;
+      few = N .few;
+      walk = go (N .walk) (X .goes);
+    } in
+    let R = ran (stepOf c s .cluster) M r (h .2) in
+    record { now = R .now; walk = walk-on (go stop (X .goes)) (R .walk); never = (never-9 N s, R .never) }
+
+pub demand-3 : Promised
+demand-3 n r₁ r₂ two seven h₁ h₂ =
+    let some : 0 < n = omega arith in
+    let N : Now n some (freshCluster n) = record { fits = fits-fresh n seven; counted = refl; few = seven; walk = stop } in
+    let X = ran (freshCluster n) N r₁ h₁ in
+    let Y = ran (momentOf n r₁) (X .now) r₂ h₂ in
+    record {
+      counted = Y .now .counted;
+      kept = λ s k l one cov. kept-in (X .now) (Y .now) (Y .walk) s k l one cov;
+      never-9-before = X .never;
+      never-9-after = Y .never;
+      never-9-next = never-9 (Y .now);
+    }

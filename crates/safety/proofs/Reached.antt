@@ -1,0 +1,103 @@
+-- Every view that a walk from a fresh cluster reaches has ghosts that keep the invariant, and they only grow.
+-- Assumes nothing.
+use mathlib.Core.Path.{_≡_, refl, sym, _∙_}
+use mathlib.Core.Bool.{true, false}
+use Prim.Native.Nat.{ℕ, zero, suc, _≤_, _<_}
+use native.Mathlib.Nat.{not-suc-le-zero}
+use native.Mathlib.Omega.{arith}
+use Rattle.safety.specs.Quorum.{Quorums}
+use Rattle.safety.specs.Cluster.{root, Seen}
+use Rattle.safety.specs.Steps.{Goes, elects, writes, takes, quiet, passes, Fresh, Walk, stop, go}
+use Rattle.safety.proofs.Leads.{Leads, Grown, grown-refl, grown-trans}
+use Rattle.safety.proofs.Inv.{Acks, Inv}
+use Rattle.safety.proofs.Quiet.{quiet-inv}
+use Rattle.safety.proofs.Passes.{acked-grow, passes-inv}
+use Rattle.safety.proofs.Elects.{elects-inv, elects-grown}
+use Rattle.safety.proofs.Writes.{writes-inv, writes-grown}
+use Rattle.safety.proofs.Takes.{takes-inv}
+
+-- ghosts that go with v
+pub record Known (𝓠 : Quorums) (v : Seen) : Type 0 where
+  pub leads : Leads
+  pub ack : Acks
+  pub inv : Inv 𝓠 v leads ack
+
+-- what was led or acknowledged stays so
+pub record Later {𝓠 : Quorums} {v v′ : Seen} (K : Known 𝓠 v) (K′ : Known 𝓠 v′) : Type 0 where
+  pub grown : Grown (K .leads) (K′ .leads)
+  pub acks : (i t : ℕ) → K .ack i t ≤ K′ .ack i t
+
+-- ---- a fresh cluster: term 0 has the empty log for its lead, and everybody has acknowledged that
+
+abbrev first : ℕ → ℕ
+first zero = 1
+first (suc u) = 0
+
+first-only : (u n : ℕ) → n < first u → (u ≡ 0) × (n ≡ 0)
+first-only zero n h = (refl, omega arith)
+first-only (suc u) n h = absurd (not-suc-le-zero h)
+
+module _ (𝓠 : Quorums) {v : Seen} (f : Fresh v) where
+  no-primary : (i : ℕ) → v i .primary ≡ true → ⊥
+  no-primary i p = let q : false ≡ true = sym (f .role i) ∙ p in let z : _≡_ {A = ℕ} 0 1 = cc in omega arith
+
+  begins : (i k : ℕ) → k ≤ 0 → v i .log k ≡ root
+  begins i k h = let e : k ≡ 0 = omega arith in rw e (f .log i)
+
+  pub fresh-known : Known 𝓠 v
+  fresh-known =
+      record {
+        leads = record { size = first; lead = λ u k. root };
+        ack = λ i. first;
+        inv =
+            record {
+              tree =
+                  record {
+                    begins = λ u h. refl;
+                    below = λ u n h. omega arith;
+                    rooted = λ u n h. record { inside = omega (arith, first-only u n h); along = λ k kn. refl };
+                    times = λ u m n mn h. absurd (omega (arith, first-only u n h));
+                  };
+              behind = λ u h. 𝓠 .more _ _ (λ i x. omega (arith, first-only u 0 h)) (𝓠 .all);
+              own = λ i. rw (f .len i) (record { inside = rw (f .log i) (omega arith); along = begins i });
+              terms = λ i. rw (f .len i, f .log i) (omega arith);
+              rule = λ i p. absurd (no-primary i p);
+              one = λ i j p. absurd (no-primary i p);
+              acks = λ i t. omega arith;
+              kept = λ t n u o lt h. absurd (omega (arith, first-only u 0 h));
+              held = λ t n i o h. record { le = omega (arith, first-only t n h); eq = λ k. omega (arith, first-only t n h) };
+              settled = λ i. rw (f .commit i) (record { within = omega arith; chosen = rw (f .log i) base });
+              base = base;
+            };
+      }
+    where
+      base : 𝓠 .Most (λ i. 0 < first 0)
+      base = 𝓠 .more _ _ (λ j x. omega arith) (𝓠 .all)
+
+-- ---- each step and each walk
+
+abbrev pub Next : {𝓠 : Quorums} {v : Seen} → Known 𝓠 v → Seen → Type 0
+Next {𝓠} K v′ = (K′ : Known 𝓠 v′) × Later K K′
+
+later-leads : {𝓠 : Quorums} {v v′ : Seen} (K : Known 𝓠 v) {g : Leads} → Grown (K .leads) g → Inv 𝓠 v′ g (K .ack) → Next K v′
+later-leads K w i = (record { leads = _; ack = K .ack; inv = i }, record { grown = w; acks = λ i t. omega arith })
+
+goes-known : {𝓠 : Quorums} {v v′ : Seen} (K : Known 𝓠 v) → Goes 𝓠 v v′ → Next K v′
+goes-known K (elects a m h) = later-leads K (elects-grown (K .inv) h) (elects-inv (K .inv) h)
+goes-known K (writes a e h) = later-leads K (writes-grown (K .inv) h) (writes-inv (K .inv) h)
+goes-known K (takes a b h) = later-leads K grown-refl (takes-inv (K .inv) h)
+goes-known K (quiet h) = later-leads K grown-refl (quiet-inv (K .inv) h)
+goes-known {v = v} K (passes a n h) =
+    (record { leads = K .leads; ack = _; inv = passes-inv (K .inv) h }, record { grown = grown-refl; acks = acked-grow v (K .ack) })
+
+pub walk-known : {𝓠 : Quorums} {v v′ : Seen} (K : Known 𝓠 v) → Walk 𝓠 v v′ → Next K v′
+walk-known K stop = later-leads K grown-refl (K .inv)
+walk-known K (go w h) =
+    let x = walk-known K w in
+    let y = goes-known (x .0) h in
+    let p = x .1 in
+    let q = y .1 in
+    (y .0, record { grown = grown-trans (p .grown) (q .grown); acks = λ i t. omega (arith, p .acks i t, q .acks i t) })
+
+pub reached : {𝓠 : Quorums} {u v : Seen} → Fresh u → Walk 𝓠 u v → Known 𝓠 v
+reached {𝓠} f w = walk-known (fresh-known 𝓠 f) w .0

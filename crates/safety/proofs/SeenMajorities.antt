@@ -1,0 +1,142 @@
+-- Kinds 1 and 7 as the view shows them: a majority elects a primary, and a majority backs a position.
+-- Assumes nothing.
+use mathlib.Core.Path.{_≡_, refl, ap, sym, _∙_, subst}
+use mathlib.Core.Bool.{Bool, true, false, not, _&&_, _||_}
+use mathlib.Core.Logic.{_⊎_, inl, inr, ⊎-elim}
+use Prim.Native.Nat.{ℕ, suc, _^_, _≤_, _<_}
+use native.Mathlib.Omega.{arith}
+use lib.Dec.{eqb, ltb, leb}
+use borrow.Author.Tests.{ltb-true, leb-true, eqb-true, not-true}
+use Rattle.base.proofs.Bools.{and-left, and-right, or-cases, not-both}
+use Rattle.base.proofs.Every.{every-at}
+use Rattle.base.proofs.Highest.{highest-passes}
+use Rattle.log.specs.Entries.{entryAt, lastTerm}
+use Rattle.log.specs.Logs.{live, lengthOf}
+use Rattle.log.proofs.Equal.{equal-at}
+use Rattle.cluster.specs.declared.Server.{Server as RecordServer}
+use Rattle.cluster.specs.declared.Cluster.{Cluster}
+use Rattle.cluster.specs.Ranges.{Fits}
+use Rattle.cluster.specs.Servers.{serverCount, serverAt, votedOf, electedAll}
+use Rattle.cluster.specs.Sets.{member, bits, mostOf}
+use Rattle.cluster.proofs.Changed.{changed-at}
+use Rattle.cluster.proofs.Masks.{within-member, within-count}
+use Rattle.steps.specs.declared.Step.the-variants.{Elect, Advances}
+use Rattle.wholes.specs.Elects.{notBehind, mayVote, allMayVote, newTerm}
+use Rattle.wholes.specs.Advances.{backs, backers, passes, highestPassing, committedOf}
+use Rattle.rules.specs.Rules.{rulesOf, doneOf}
+use Rattle.safety.specs.Quorum.{Quorums, Majority}
+use Rattle.safety.specs.Cluster.{Server, NotBehind}
+use Rattle.safety.specs.Steps.{Voted, Backs, elects}
+use Rattle.safety.specs.Steps as T
+use Rattle.safety.specs.View.{seenEntry, seenServer, view}
+use Rattle.safety.proofs.Views.{here, others, changed-view}
+use Rattle.safety.proofs.SeenQuiet.{Sees}
+
+-- ---- kind 1
+
+not-behind : (s t : RecordServer) → notBehind s t ≡ true → NotBehind (seenServer s) (seenServer t)
+unfolding notBehind
+not-behind s t e = go (or-cases (ltb (lastTerm (live (t .log))) (lastTerm (live (s .log)))) _ e)
+  where
+    go : (ltb (lastTerm (live (t .log))) (lastTerm (live (s .log))) ≡ true)
+        ⊎ ((eqb (lastTerm (live (t .log))) (lastTerm (live (s .log))) && leb (lengthOf (t .log)) (lengthOf (s .log))) ≡ true)
+        → NotBehind (seenServer s) (seenServer t)
+    go (inl h) = let l = ltb-true (lastTerm (live (t .log))) (lastTerm (live (s .log))) h in record { le = omega arith; eq = λ x. absurd (omega arith) }
+    go (inr h) =
+        let l = eqb-true (lastTerm (live (t .log))) (lastTerm (live (s .log))) (and-left _ _ h) in
+        let k = leb-true (lengthOf (t .log)) (lengthOf (s .log)) (and-right (eqb (lastTerm (live (t .log))) (lastTerm (live (s .log)))) _ h) in
+        record { le = omega arith; eq = λ x. k }
+
+-- where the test of a member is passed
+of-member : (m i : ℕ) (b : Bool) → member m i ≡ true → (not (member m i) || b) ≡ true → b ≡ true
+of-member m i b e h = ⊎-elim (λ x. not-both (member m i) e (not-true (member m i) x)) (λ x. x) (or-cases (not (member m i)) b h)
+
+module _ (a m t i : ℕ) (s : RecordServer) where
+  voted-in : member m i ≡ true → Voted (seenServer s) (seenServer (votedOf a m t i s)) t
+  unfolding votedOf
+  voted-in e = rw e (record { keeps = record { len = refl; log = refl }; commit = refl; term = refl })
+
+  voted-role : member m i ≡ true → votedOf a m t i s .primary ≡ true → i ≡ a
+  unfolding votedOf
+  voted-role e p = eqb-true i a (rw e at p)
+
+  voted-out : member m i ≡ false → seenServer (votedOf a m t i s) ≡ seenServer s
+  unfolding votedOf
+  voted-out e = rw e
+
+-- ---- kind 7
+
+backing : (s t : RecordServer) (n : ℕ) → backs s n t ≡ true → Backs (seenServer s) n (seenServer t)
+unfolding backs
+backing s t n e =
+    let q = equal-at _ _ n (and-right (eqb (t .term) (s .term)) _ e) in
+    record { term = eqb-true (t .term) (s .term) (and-left _ _ e); within = q .left; entry = ap seenEntry (q .same) }
+
+-- a position that passes, as facts
+record Passing (c : Cluster) (s : RecordServer) (n : ℕ) : Type 0 where
+  within : n ≤ lengthOf (s .log)
+  current : entryAt (live (s .log)) n .term ≡ s .term
+  enough : mostOf (serverCount c) (backers c s n) ≡ true
+
+passing : {c : Cluster} {s : RecordServer} {n : ℕ} → passes c s n ≡ true → Passing c s n
+unfolding passes
+passing {c} {s} {n} e =
+    let r = and-right (ltb (s .commit) n) _ e in
+    let q = and-right (leb n (lengthOf (s .log))) _ r in
+    record {
+      within = leb-true n (lengthOf (s .log)) (and-left _ _ r);
+      current = eqb-true (entryAt (live (s .log)) n .term) (s .term) (and-left _ _ q);
+      enough = and-right (eqb (entryAt (live (s .log)) n .term) (s .term)) _ q;
+    }
+
+-- ---- the steps
+
+module _ {𝓠 : Quorums} (c : Cluster) (f : Fits c) (most : (P : ℕ → Type 0) → Majority (serverCount c) P → 𝓠 .Most P) where
+  pub sees-elect : (a m : ℕ) → m < 2 ^ bits → Sees 𝓠 c (Elect a m)
+  unfolding rulesOf doneOf allMayVote mayVote
+  sees-elect a m fits h =
+      elects a (member m)
+      (record {
+        quorum = most _ (record {
+          members = member m;
+          enough = rw (← within-count m (serverCount c) fits (omega arith) (h .1 .0)) (h .1 .1 .0);
+          hold = λ i l e. e;
+        });
+        low = λ i e. leb-true _ _ (and-left _ _ (may i e));
+        ahead = λ i e. not-behind (serverAt c a) (serverAt c i) (and-right (leb (serverAt c i .term) (serverAt c a .term)) _ (may i e));
+        voted = λ i e. subst (λ (s : RecordServer). Voted (view c i) (seenServer s) (suc (serverAt c a .term))) (sym (changed i e))
+            (rw risen (voted-in a m (newTerm c a) i (serverAt c i) e));
+        winner = λ i e p. voted-role a m (newTerm c a) i (serverAt c i) e (ap (λ (s : RecordServer). s .primary) (sym (changed i e)) ∙ p);
+        others = λ i e. changed-view _ c i (voted-out a m _ i (serverAt c i) e);
+      })
+    where
+      risen : suc (serverAt c a .term) ≡ newTerm c a
+      risen = omega arith
+
+      below : (i : ℕ) → member m i ≡ true → i < serverCount c
+      below i e = within-member m (serverCount c) i fits (h .1 .0) e
+
+      may : (i : ℕ) → member m i ≡ true → mayVote (serverAt c a) (serverAt c i) ≡ true
+      may i e = of-member m i _ e (every-at _ (serverCount c) i (h .1 .1 .1 .1 .0) (below i e))
+
+      changed : (i : ℕ) → member m i ≡ true → serverAt (electedAll c a m (newTerm c a)) i ≡ votedOf a m (newTerm c a) i (serverAt c i)
+      changed i e = changed-at (votedOf a m (newTerm c a)) c i (omega (arith, below i e, f .slots))
+
+  pub sees-advance : (a : ℕ) → Sees 𝓠 c (Advances a)
+  unfolding rulesOf doneOf highestPassing
+  sees-advance a h =
+      let s = serverAt c a in
+      let n = highestPassing c s in
+      let p = passing (highest-passes (passes c s) (lengthOf (s .log)) (leb-true 1 n (h .1 .1 .0))) in
+      let q = here c f a (h .0) (committedOf s n) in
+      T.passes a n
+      (record {
+        within = p .within;
+        current = p .current;
+        quorum = most _ (record { members = λ i. backs s n (serverAt c i); enough = p .enough; hold = λ i l e. backing s (serverAt c i) n e });
+        keeps = record { len = ap (λ (x : Server). x .len) q; log = ap (λ (x : Server). x .log) q };
+        term = ap (λ (x : Server). x .term) q;
+        role = ap (λ (x : Server). x .primary) q;
+        commit = ap (λ (x : Server). x .commit) q;
+        others = others c f a (h .0) (committedOf s n);
+      })

@@ -1,0 +1,106 @@
+-- Kinds 2, 3 and 8 to 13 as the view shows them: no log changes, and a commit point stays, is lost or is heard.
+-- Assumes nothing.
+use mathlib.Core.Path.{_≡_, refl, ap}
+use mathlib.Core.Bool.{Bool, true, false, cond}
+use Prim.Native.Nat.{ℕ}
+use native.Mathlib.Omega.{arith}
+use lib.Dec.{ltb}
+use borrow.Author.Tests.{ltb-false, not-true}
+use Rattle.base.proofs.Bools.{and-left, and-right, not-both}
+use Rattle.clock.specs.declared.Time.{Time}
+use Rattle.log.proofs.Equal.{equal-at}
+use Rattle.cluster.specs.declared.Server.{Server as RecordServer}
+use Rattle.cluster.specs.declared.Cluster.{Cluster}
+use Rattle.cluster.specs.Ranges.{Fits}
+use Rattle.cluster.specs.Servers.{serverCount, serverAt, withServer, clockedOf}
+use Rattle.steps.specs.declared.Step.{Step}
+use Rattle.steps.specs.declared.Step.the-variants.{StepDown, Hears, WallClock, Restarts, LocalRead, MajorityRead, Acknowledged, ClocksAgree}
+use Rattle.steps.proofs.Decided.{Clear}
+use Rattle.pairs.specs.Hears.{takesCommit, heardOf}
+use Rattle.singles.specs.Roles.{downOf, tickedOf, restartedOf}
+use Rattle.wholes.specs.Starts.{greatestClock}
+use Rattle.rules.specs.Rules.{rulesOf, doneOf}
+use Rattle.safety.specs.Quorum.{Quorums}
+use Rattle.safety.specs.Cluster.{Server}
+use Rattle.safety.specs.Steps.{Settles, stays, restarts, hears, Rests, Goes}
+use Rattle.safety.specs.View.{seenEntry, seenServer, view}
+use Rattle.safety.proofs.Joins.{alone, unchanged}
+use Rattle.safety.proofs.Views.{here, others, not-shown, changed-view}
+
+-- a step whose rules are clear is a step of the theory
+abbrev pub Sees : Quorums → Cluster → Step → Type 0
+Sees 𝓠 c s = Clear (rulesOf c s) → Goes 𝓠 (view c) (view (doneOf c s .cluster))
+
+-- the wall clock is not seen
+clocked-seen : (n w i : ℕ) (s : RecordServer) → seenServer (clockedOf n w i s) ≡ seenServer s
+unfolding clockedOf
+clocked-seen n w i s = go (ltb i n)
+  where
+    go : (b : Bool) → seenServer (cond b (record { log = s .log; term = s .term; primary = s .primary; commit = s .commit; wall = w; time = s .time }) s) ≡ seenServer s
+    go true = refl
+    go false = refl
+
+-- a primary that hears a higher term is none
+heard-rests : (s t : RecordServer) → Rests (seenServer s) (seenServer (heardOf s t))
+unfolding heardOf
+heard-rests s t =
+    record {
+      keeps = record { len = refl; log = refl };
+      raised = omega arith;
+      role = λ p. and-left _ _ p;
+      unraised = λ p. omega (arith, ltb-false (s .term) (t .term) (not-true _ (and-right (s .primary) _ p)));
+    }
+
+-- b's commit point is taken only with an equal entry there
+heard-settles : (c : Cluster) (a b : ℕ) → Settles (view c) a (heardOf (serverAt c a) (serverAt c b) .commit)
+unfolding heardOf takesCommit
+heard-settles c a b = go (takesCommit (serverAt c a) (serverAt c b)) refl
+  where
+    go : (x : Bool) → takesCommit (serverAt c a) (serverAt c b) ≡ x → Settles (view c) a (cond x (serverAt c b .commit) (serverAt c a .commit))
+    go true e =
+        let q = equal-at _ _ (serverAt c b .commit) (and-right (ltb (serverAt c a .commit) (serverAt c b .commit)) _ e) in
+        hears b refl (q .left) (ap seenEntry (q .same))
+    go false e = stays refl
+
+-- a server that is secondary afterwards, whatever its commit point
+lowered : (r : Server) (k : ℕ) → Rests r (record { len = r .len; log = r .log; term = r .term; primary = false; commit = k })
+lowered r k = record { keeps = record { len = refl; log = refl }; raised = omega arith; role = λ p. not-both false p refl; unraised = λ p. refl }
+
+module _ {𝓠 : Quorums} (c : Cluster) (f : Fits c) where
+  quietly : (a : ℕ) → ltb a (serverCount c) ≡ true → (s : RecordServer) → Rests (view c a) (seenServer s) → Settles (view c) a (s .commit)
+      → Goes 𝓠 (view c) (view (withServer c a s))
+  quietly a l s r t = alone (others c f a l s) (rw (here c f a l s) (record { rests = r; settles = t }))
+
+  pub sees-down : (a : ℕ) → Sees 𝓠 c (StepDown a)
+  unfolding rulesOf doneOf
+  sees-down a h = quietly a (h .0) (downOf (serverAt c a)) (lowered (view c a) (view c a .commit)) (stays refl)
+
+  pub sees-restart : (a : ℕ) → Sees 𝓠 c (Restarts a)
+  unfolding rulesOf doneOf
+  sees-restart a h = quietly a (h .0) (restartedOf (serverAt c a)) (lowered (view c a) 0) (restarts refl)
+
+  pub sees-hears : (a b : ℕ) → Sees 𝓠 c (Hears a b)
+  unfolding rulesOf doneOf
+  sees-hears a b h =
+      quietly a (h .0) (heardOf (serverAt c a) (serverAt c b)) (heard-rests (serverAt c a) (serverAt c b)) (heard-settles c a b)
+
+  pub sees-clock : (a : ℕ) → Sees 𝓠 c (WallClock a)
+  unfolding rulesOf doneOf
+  sees-clock a h = not-shown c f a (h .0) (tickedOf (serverAt c a)) refl
+
+  pub sees-local : (a key : ℕ) (asked : Time) → Sees 𝓠 c (LocalRead a key asked)
+  unfolding rulesOf doneOf
+  sees-local a key asked h = not-shown c f a (h .0) (serverAt c a) refl
+
+  pub sees-majority : (a key : ℕ) (asked : Time) → Sees 𝓠 c (MajorityRead a key asked)
+  unfolding rulesOf doneOf
+  sees-majority a key asked h = not-shown c f a (h .0) (serverAt c a) refl
+
+pub sees-acknowledged : {𝓠 : Quorums} (c : Cluster) (a k n term : ℕ) → Sees 𝓠 c (Acknowledged a k n term)
+unfolding rulesOf doneOf
+sees-acknowledged c a k n term h = unchanged (λ i. refl)
+
+pub sees-agree : {𝓠 : Quorums} (c : Cluster) → Sees 𝓠 c ClocksAgree
+unfolding rulesOf doneOf
+sees-agree c h =
+    unchanged (λ i. changed-view (clockedOf (c .count) (greatestClock c)) c i (clocked-seen (c .count) (greatestClock c) i (serverAt c i)))

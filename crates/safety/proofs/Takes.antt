@@ -1,0 +1,74 @@
+-- A pull or a rollback keeps the invariant (kinds 4 and 5).
+-- Assumes nothing.
+use mathlib.Core.Path.{_≡_, refl, sym, _∙_}
+use mathlib.Core.Logic.{inl, by-cases}
+use mathlib.Core.Bool.{true, false}
+use Prim.Native.Nat.{ℕ, _≤_, max}
+use native.Mathlib.Decide.{decLe}
+use native.Mathlib.Omega.{arith}
+use Rattle.safety.specs.Quorum.{Quorums}
+use Rattle.safety.specs.Cluster.{Log, Seen, lastTerm, Holds, NotBehind}
+use Rattle.safety.specs.Steps.{Takes}
+use Rattle.safety.proofs.Leads.{Leads, Rooted, term-of, rooted-agree}
+use Rattle.safety.proofs.Inv.{Acks, Settled, Open, Inv, settled-holds, still-open, replaced, reaches}
+use Rattle.safety.proofs.Inv.{still-behind, not-lost, may-copy}
+
+module _ {𝓠 : Quorums} {v v′ : Seen} {g : Leads} {ack : Acks} (inv : Inv 𝓠 v g ack) {a b : ℕ} (h : Takes v v′ a b) where
+  raised : (i : ℕ) → v i .term ≤ v′ i .term
+  raised i = replaced (h .others) (λ j s. v j .term ≤ s .term) (omega (arith, h .term)) i (λ ne. omega arith)
+
+  last-a : lastTerm (v′ a) ≡ lastTerm (v b)
+  last-a = rw (h .len) (term-of (h .log (v b .len) (omega arith)))
+
+  -- what b holds a holds afterwards
+  handed : {k : ℕ} {L : Log} → Holds k L (v b) → Holds k L (v′ a)
+  handed H = record { long = omega (arith, H .long, h .len); same = λ j jk. h .log j (omega (arith, H .long)) ∙ H .same j jk }
+
+  terms-a : lastTerm (v′ a) ≤ v′ a .term
+  terms-a = omega (arith, last-a, h .term, inv .terms b)
+
+  own-a : Rooted g (v′ a .log) (v′ a .len)
+  own-a = rw (h .len) (rooted-agree (h .log) (inv .own b))
+
+  was : {t n : ℕ} → Open 𝓠 v′ g ack t n → Open 𝓠 v g ack t n
+  was o = still-open raised (λ i. inl (omega arith)) (o .pair) o
+
+  -- b is not behind a
+  longer : NotBehind (v′ a) (v a)
+  longer = rw (last-a, h .len) (may-copy inv a b (h .may))
+
+  -- a's commit point is b's, or its own, and b holds what that covers
+  settled-a : (k : ℕ) → k ≡ max (v a .commit) (v b .commit) → Settled 𝓠 ack (v′ a) k
+  settled-a k e = by-cases (decLe (v a .commit) (v b .commit)) (λ y. theirs (omega arith)) (λ y. ours (omega arith))
+    where
+      theirs : k ≡ v b .commit → Settled 𝓠 ack (v′ a) k
+      theirs q = rw q (settled-holds (handed (record { long = inv .settled b .within; same = λ j jk. refl })) (inv .settled b))
+
+      ours : k ≡ v a .commit → Settled 𝓠 ack (v′ a) k
+      ours q =
+          let c = inv .settled a in
+          rw q (settled-holds (handed (not-lost inv a b (v a .commit) (may-copy inv a b (h .may)) c)) c)
+
+  -- a is no primary, and every primary is unchanged
+  primaries : (i : ℕ) → v′ i .primary ≡ true → v′ i ≡ v i
+  primaries i = replaced (h .others) (λ j s. s .primary ≡ true → s ≡ v j) (λ p. absurd (clash p)) i (λ ne p. refl)
+    where
+      clash : v′ a .primary ≡ true → ⊥
+      clash p = let q : true ≡ false = sym p ∙ h .role ∙ h .secondary in let z : _≡_ {A = ℕ} 0 1 = cc in omega arith
+
+  pub takes-inv : Inv 𝓠 v′ g ack
+  takes-inv =
+      record {
+        tree = inv .tree;
+        behind = still-behind inv v′ raised;
+        own = λ i. replaced (h .others) (λ j s. Rooted g (s .log) (s .len)) own-a i (λ ne. inv .own i);
+        terms = λ i. replaced (h .others) (λ j s. lastTerm s ≤ s .term) terms-a i (λ ne. inv .terms i);
+        rule = λ i p. rw (primaries i p) (inv .rule i (rw (primaries i p) at p));
+        one = λ i j p q. rw (primaries i p, primaries j q) (inv .one i j (rw (primaries i p) at p) (rw (primaries j q) at q));
+        acks = inv .acks;
+        kept = λ t n u o. inv .kept t n u (was o);
+        held = λ t n i o k. reaches (h .others) longer t n i (inv .held t n i (was o) k);
+        settled =
+            λ i. replaced (h .others) (λ j s. Settled 𝓠 ack s (s .commit)) (settled-a _ (h .commit)) i (λ ne. inv .settled i);
+        base = inv .base;
+      }

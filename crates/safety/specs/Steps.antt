@@ -1,0 +1,111 @@
+-- The steps of 01 that are not refused, each as what safety needs to know of the view before it and the view after it.
+-- Assumes nothing.
+use mathlib.Core.Path.{_≡_}
+use mathlib.Core.Bool.{Bool, true, false}
+use Prim.Native.Nat.{ℕ, suc, _≤_, _<_, max}
+use Rattle.safety.specs.Quorum.{Quorums}
+use Rattle.safety.specs.Cluster.{Entry, root, Agree, Server, Seen, lastTerm, appliedTime, NotBehind, Others}
+
+-- the log of s is still that of r
+pub record SameLog (r s : Server) : Type 0 where
+  pub len : s .len ≡ r .len
+  pub log : s .log ≡ r .log
+
+-- a member of an election: r before, s after, where term t is won
+pub record Voted (r s : Server) (t : ℕ) : Type 0 where
+  pub keeps : SameLog r s
+  pub commit : s .commit ≡ r .commit
+  pub term : s .term ≡ t
+
+-- kind 1: the members elect a; that a is one of them is not needed
+pub record Elects (𝓠 : Quorums) (v v′ : Seen) (a : ℕ) (members : ℕ → Bool) : Type 0 where
+  pub quorum : 𝓠 .Most (λ i. members i ≡ true)
+  pub low : (i : ℕ) → members i ≡ true → v i .term ≤ v a .term
+  pub ahead : (i : ℕ) → members i ≡ true → NotBehind (v a) (v i)
+  pub voted : (i : ℕ) → members i ≡ true → Voted (v i) (v′ i) (suc (v a .term))
+  pub winner : (i : ℕ) → members i ≡ true → v′ i .primary ≡ true → i ≡ a
+  pub others : (i : ℕ) → members i ≡ false → v′ i ≡ v i
+
+-- kind 6: a writes e
+pub record Writes (v v′ : Seen) (a : ℕ) (e : Entry) : Type 0 where
+  pub primary : v a .primary ≡ true
+  pub current : e .term ≡ v a .term
+  pub later : appliedTime (v a) < e .time
+  pub len : v′ a .len ≡ suc (v a .len)
+  pub kept : Agree (v a .len) (v′ a .log) (v a .log)
+  pub entry : v′ a .log (suc (v a .len)) ≡ e
+  pub term : v′ a .term ≡ v a .term
+  pub role : v′ a .primary ≡ v a .primary
+  pub commit : v′ a .commit ≡ v a .commit
+  pub others : Others v v′ a
+
+-- kinds 4 and 5: when s may take r's log; the root stands for the last entry of an empty log
+pub data Copies (s r : Server) : Type 0 where
+  pulls : s .len ≤ r .len → s .log (s .len) ≡ r .log (s .len) → Copies s r
+  rollsBack : lastTerm s < lastTerm r → Copies s r
+
+-- kinds 4 and 5: a takes b's log, which is what both rows leave
+pub record Takes (v v′ : Seen) (a b : ℕ) : Type 0 where
+  pub may : Copies (v a) (v b)
+  pub secondary : v a .primary ≡ false
+  pub len : v′ a .len ≡ v b .len
+  pub log : Agree (v b .len) (v′ a .log) (v b .log)
+  pub term : v′ a .term ≡ max (v a .term) (v b .term)
+  pub role : v′ a .primary ≡ v a .primary
+  pub commit : v′ a .commit ≡ max (v a .commit) (v b .commit)
+  pub others : Others v v′ a
+
+-- where server i's commit point may go without a count: it stays, is lost at a restart, or is heard from b, with an equal entry there
+pub data Settles (v : Seen) (i k : ℕ) : Type 0 where
+  stays : k ≡ v i .commit → Settles v i k
+  restarts : k ≡ 0 → Settles v i k
+  hears : (b : ℕ) → k ≡ v b .commit → k ≤ v i .len → v i .log k ≡ v b .log k → Settles v i k
+
+-- s is r afterwards: its log is kept, and where its term has risen it is no primary
+pub record Rests (r s : Server) : Type 0 where
+  pub keeps : SameLog r s
+  pub raised : r .term ≤ s .term
+  pub role : s .primary ≡ true → r .primary ≡ true
+  pub unraised : s .primary ≡ true → s .term ≡ r .term
+
+-- kinds 2, 3 and 9, and those that the view does not show: s is server i afterwards
+pub record Quiet (v : Seen) (i : ℕ) (s : Server) : Type 0 where
+  pub rests : Rests (v i) s
+  pub settles : Settles v i (s .commit)
+
+-- kind 7: s counts for position n of r's log
+pub record Backs (r : Server) (n : ℕ) (s : Server) : Type 0 where
+  pub term : s .term ≡ r .term
+  pub within : n ≤ s .len
+  pub entry : s .log n ≡ r .log n
+
+-- kind 7: a's commit point goes to n, which passes
+pub record Passes (𝓠 : Quorums) (v v′ : Seen) (a n : ℕ) : Type 0 where
+  pub within : n ≤ v a .len
+  pub current : v a .log n .term ≡ v a .term
+  pub quorum : 𝓠 .Most (λ i. Backs (v a) n (v i))
+  pub keeps : SameLog (v a) (v′ a)
+  pub term : v′ a .term ≡ v a .term
+  pub role : v′ a .primary ≡ v a .primary
+  pub commit : v′ a .commit ≡ n
+  pub others : Others v v′ a
+
+pub data Goes (𝓠 : Quorums) (v v′ : Seen) : Type 0 where
+  elects : (a : ℕ) (members : ℕ → Bool) → Elects 𝓠 v v′ a members → Goes 𝓠 v v′
+  writes : (a : ℕ) (e : Entry) → Writes v v′ a e → Goes 𝓠 v v′
+  takes : (a b : ℕ) → Takes v v′ a b → Goes 𝓠 v v′
+  quiet : ((i : ℕ) → Quiet v i (v′ i)) → Goes 𝓠 v v′
+  passes : (a n : ℕ) → Passes 𝓠 v v′ a n → Goes 𝓠 v v′
+
+-- the fresh cluster
+pub record Fresh (v : Seen) : Type 0 where
+  pub len : (i : ℕ) → v i .len ≡ 0
+  pub log : (i : ℕ) → v i .log 0 ≡ root
+  pub term : (i : ℕ) → v i .term ≡ 0
+  pub role : (i : ℕ) → v i .primary ≡ false
+  pub commit : (i : ℕ) → v i .commit ≡ 0
+
+-- any steps in any order
+pub data Walk (𝓠 : Quorums) : Seen → Seen → Type 0 where
+  stop : {v : Seen} → Walk 𝓠 v v
+  go : {v v′ v″ : Seen} → Walk 𝓠 v v′ → Goes 𝓠 v′ v″ → Walk 𝓠 v v″
