@@ -1,0 +1,133 @@
+//! Lines of hexadecimal: from a line to a step, and what writing a step and writing an answer have
+//! in common. Both programs read lines here, so that the generator's model follows whatever its
+//! lines turn out to mean.
+
+use crate::model::{Condition, Condition::*, KINDS, Numbers, Step, Time};
+
+/// The bytes of a step frame.
+pub const FRAME: usize = 13;
+/// The characters of a step line.
+pub const LINE: usize = 2 * FRAME;
+
+// Bit i stands for byte i of a frame.
+const KIND: u16 = 1;
+const A: u16 = 1 << 1;
+const B: u16 = 1 << 2;
+const SET_OR_COUNT: u16 = 1 << 3;
+const KEY: u16 = 1 << 4;
+const NUMBER: u16 = 3 << 5;
+const TERM: u16 = 3 << 7;
+const TIME: u16 = 15 << 9;
+const ALL: u16 = (1 << FRAME) - 1;
+
+const fn all_but(used: u16) -> u16 {
+    ALL & !(KIND | used)
+}
+
+/// For each kind, which bytes must be zero.
+pub const MUST_BE_ZERO: [u16; KINDS] = [
+    all_but(A),
+    all_but(A | SET_OR_COUNT),
+    all_but(A),
+    all_but(A | B),
+    all_but(A | B),
+    all_but(A | B),
+    all_but(A | KEY | NUMBER),
+    all_but(A),
+    all_but(A),
+    all_but(A),
+    all_but(A | KEY | TIME),
+    all_but(A | KEY | TIME),
+    all_but(A | SET_OR_COUNT | NUMBER | TERM),
+    all_but(0),
+];
+
+/// Reads a line without its line feed; of a longer one its first 27 bytes are enough.
+pub fn read_line(line: &[u8]) -> Result<Step, Condition> {
+    if line.len() != LINE {
+        return Err(WrongLength);
+    }
+    let mut frame = [0; FRAME];
+    for (byte, pair) in frame.iter_mut().zip(line.chunks_exact(2)) {
+        *byte = digit(pair[0])? << 4 | digit(pair[1])?;
+    }
+    read_frame(&frame)
+}
+
+fn digit(character: u8) -> Result<u8, Condition> {
+    match character {
+        b'0'..=b'9' => Ok(character - b'0'),
+        b'a'..=b'f' => Ok(character - b'a' + 10),
+        _ => Err(WrongCharacter),
+    }
+}
+
+fn read_frame(frame: &[u8; FRAME]) -> Result<Step, Condition> {
+    let must_be_zero = *MUST_BE_ZERO.get(usize::from(frame[0])).ok_or(UnknownKind)?;
+    if (0..FRAME).any(|i| must_be_zero >> i & 1 == 1 && frame[i] != 0) {
+        return Err(UnusedByte);
+    }
+    let pair = |i: usize| u16::from_be_bytes([frame[i], frame[i + 1]]);
+    let [kind, a, b, set, key, ..] = *frame;
+    let (number, term, time) = (pair(5), pair(7), Time { p: pair(9), l: pair(11) });
+    Ok(match kind {
+        0 => Step::Start { servers: a },
+        1 => Step::Elect { a, set },
+        2 => Step::StepDown { a },
+        3 => Step::Hears { a, b },
+        4 => Step::Pulls { a, b },
+        5 => Step::RollsBack { a, b },
+        6 => Step::Writes { a, key, value: number },
+        7 => Step::Advances { a },
+        8 => Step::WallClock { a },
+        9 => Step::Restarts { a },
+        10 => Step::LocalRead { a, key, time },
+        11 => Step::MajorityRead { a, key, time },
+        12 => Step::Acknowledged { a, count: set, position: number, term },
+        // The table above has let pass no kind but 13 here.
+        _ => Step::ClocksAgree,
+    })
+}
+
+/// Writes the number, term and time that step frames and answer frames both end in.
+pub fn put_numbers(place: &mut [u8], numbers: &Numbers) {
+    let pairs = [numbers.number, numbers.term, numbers.time.p, numbers.time.l];
+    for (place, pair) in place.chunks_exact_mut(2).zip(&pairs) {
+        place.copy_from_slice(&pair.to_be_bytes());
+    }
+}
+
+/// Writes bytes as hexadecimal at the beginning of a line.
+pub fn write_bytes(line: &mut [u8], bytes: &[u8]) {
+    const DIGITS: &[u8; 16] = b"0123456789abcdef";
+    for (pair, byte) in line.chunks_exact_mut(2).zip(bytes) {
+        pair[0] = DIGITS[usize::from(byte >> 4)];
+        pair[1] = DIGITS[usize::from(byte & 15)];
+    }
+}
+
+#[cfg(test)]
+mod tests {
+    use super::*;
+
+    #[test]
+    fn the_table_is_the_rulings_table() {
+        let rulings = [
+            0x1ffc, 0x1ff4, 0x1ffc, 0x1ff8, 0x1ff8, 0x1ff8, 0x1f8c, 0x1ffc, 0x1ffc, 0x1ffc, 0x01ec,
+            0x01ec, 0x1e14, 0x1ffe,
+        ];
+        assert_eq!(MUST_BE_ZERO, rulings);
+    }
+
+    #[test]
+    fn each_sort_of_bad_line_is_told_apart() {
+        let frame = b"0c010200000003000400000000";
+        assert_eq!(read_line(&frame[..25]), Err(WrongLength));
+        assert_eq!(read_line(b""), Err(WrongLength));
+        assert_eq!(read_line(frame), Err(UnusedByte));
+        assert_eq!(read_line(b"0C010002000003000400000000"), Err(WrongCharacter));
+        assert_eq!(read_line(b"0e000000000000000000000000"), Err(UnknownKind));
+        let step = Step::Acknowledged { a: 1, count: 2, position: 0x304, term: 0x506 };
+        assert_eq!(read_line(b"0c010002000304050600000000"), Ok(step));
+    }
+}

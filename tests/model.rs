@@ -1,0 +1,555 @@
+//! One small replica set that can be run: the cluster record, the fourteen kinds of step and what
+//! comes back. Written from document 01 and the rulings alone; `plain.rs` runs it over lines and
+//! `sessions.rs` steers by it. Record-level tests are in `model_tests.rs`.
+
+use self::Condition::*;
+use self::Role::*;
+
+/// The most servers a cluster has, and the number of places in the record.
+pub const SERVERS: usize = 7;
+/// The most entries a log holds.
+pub const ENTRIES: usize = 32;
+/// How many kinds of step there are.
+pub const KINDS: usize = 14;
+const KEY_MAX: u8 = 15;
+
+/// Ordered by p and then by l.
+#[derive(Clone, Copy, PartialEq, Eq, PartialOrd, Ord, Debug)]
+pub struct Time {
+    pub p: u16,
+    pub l: u16,
+}
+
+#[derive(Clone, Copy, PartialEq, Eq, Debug)]
+pub struct Entry {
+    pub term: u16,
+    pub key: u8,
+    pub value: u16,
+    pub time: Time,
+}
+
+/// Positions count from 1, so position n stands in slot n - 1.
+#[derive(Clone, Copy, PartialEq, Eq, Debug)]
+pub struct Log {
+    pub entries: [Entry; ENTRIES],
+    pub length: usize,
+}
+
+#[derive(Clone, Copy, PartialEq, Eq, Debug)]
+pub enum Role {
+    Secondary,
+    Primary,
+}
+
+#[derive(Clone, Copy, PartialEq, Eq, Debug)]
+pub struct Server {
+    pub log: Log,
+    pub term: u16,
+    pub role: Role,
+    pub commit_point: usize,
+    pub wall_clock: u16,
+    pub cluster_time: Time,
+}
+
+#[derive(Clone, Copy, PartialEq, Eq, Debug)]
+pub struct Cluster {
+    pub count: usize,
+    pub servers: [Server; SERVERS],
+}
+
+/// One step: just the fields its kind uses, each as wide as on the wire.
+#[derive(Clone, Copy, PartialEq, Eq, Debug)]
+pub enum Step {
+    Start { servers: u8 },
+    Elect { a: u8, set: u8 },
+    StepDown { a: u8 },
+    Hears { a: u8, b: u8 },
+    Pulls { a: u8, b: u8 },
+    RollsBack { a: u8, b: u8 },
+    Writes { a: u8, key: u8, value: u16 },
+    Advances { a: u8 },
+    WallClock { a: u8 },
+    Restarts { a: u8 },
+    LocalRead { a: u8, key: u8, time: Time },
+    MajorityRead { a: u8, key: u8, time: Time },
+    Acknowledged { a: u8, count: u8, position: u16, term: u16 },
+    ClocksAgree,
+}
+
+/// The numbers of an answer to a step that was done.
+#[derive(Clone, Copy, PartialEq, Eq, Debug)]
+pub struct Numbers {
+    pub number: u16,
+    pub term: u16,
+    pub time: Time,
+}
+
+/// Either the numbers or the one condition that refused.
+pub type Answer = Result<Numbers, Condition>;
+
+/// Every condition that refuses, finer than the refusal numbers so that each can be tallied.
+#[derive(Clone, Copy, PartialEq, Eq, Debug)]
+pub enum Condition {
+    WrongLength,
+    WrongCharacter,
+    UnknownKind,
+    UnusedByte,
+    NotWellFormed,
+    StartBelow2,
+    StartAbove7,
+    ServerOutside,
+    OtherServerOutside,
+    SameServer,
+    MemberOutside,
+    CountAbove,
+    KeyAbove15,
+    ValueZero,
+    PositionZero,
+    PositionAbove32,
+    TermZero,
+    NotPrimary,
+    NotSecondary,
+    NotAMajority,
+    OutsideItsSet,
+    MemberTermAbove,
+    BehindAMember,
+    NotShorter,
+    LastEntryDiffers,
+    LogEmpty,
+    LastTermNotBelow,
+    ABeginning,
+    NothingPasses,
+    LogFull,
+    TermAtLimit,
+    WallClockAtLimit,
+    TickAtLimit,
+    AppliedTimeBefore,
+    CommitTimeBefore,
+    CommitPointBelow,
+    FewerThanCount,
+    CommonBelowCommitPoint,
+    NoEntry,
+    OtherTerm,
+}
+
+/// How many conditions there are.
+pub const CONDITIONS: usize = OtherTerm as usize + 1;
+
+impl Condition {
+    /// The refusal number that document 01 gives this condition.
+    pub fn number(self) -> u8 {
+        match self {
+            WrongLength | WrongCharacter | UnknownKind | UnusedByte => 1,
+            NotWellFormed => 2,
+            StartBelow2 | StartAbove7 | ServerOutside | OtherServerOutside | SameServer => 3,
+            MemberOutside | CountAbove | KeyAbove15 | ValueZero => 3,
+            PositionZero | PositionAbove32 | TermZero => 3,
+            NotPrimary | NotSecondary => 4,
+            NotAMajority | OutsideItsSet | MemberTermAbove | BehindAMember => 5,
+            NotShorter | LastEntryDiffers => 5,
+            LogEmpty | LastTermNotBelow | ABeginning | NothingPasses => 5,
+            LogFull => 6,
+            TermAtLimit | WallClockAtLimit | TickAtLimit => 7,
+            AppliedTimeBefore | CommitTimeBefore | CommitPointBelow | FewerThanCount => 8,
+            CommonBelowCommitPoint => 9,
+            NoEntry | OtherTerm => 10,
+        }
+    }
+}
+
+/// One test of a kind's list; the first that applies is the answer.
+fn refuse_if(applies: bool, condition: Condition) -> Result<(), Condition> {
+    if applies { Err(condition) } else { Ok(()) }
+}
+
+impl Time {
+    pub const ZERO: Time = Time { p: 0, l: 0 };
+
+    /// None where l would have to pass its limit.
+    fn tick(self, wall_clock: u16) -> Option<Time> {
+        if self.p >= wall_clock {
+            self.l.checked_add(1).map(|l| Time { p: self.p, l })
+        } else {
+            Some(Time { p: wall_clock, l: 0 })
+        }
+    }
+}
+
+impl Entry {
+    const ZERO: Entry = Entry { term: 0, key: 0, value: 0, time: Time::ZERO };
+
+    fn in_range(&self) -> bool {
+        self.term >= 1 && self.key <= KEY_MAX && self.value >= 1
+    }
+
+    fn may_precede(&self, next: &Entry) -> bool {
+        self.term <= next.term && self.time < next.time
+    }
+}
+
+impl Log {
+    const EMPTY: Log = Log { entries: [Entry::ZERO; ENTRIES], length: 0 };
+
+    /// The entries up to the length, which has to be tested first.
+    fn held(&self) -> &[Entry] {
+        &self.entries[..self.length]
+    }
+
+    /// The entry at a position; none at 0 or past the length.
+    pub fn entry(&self, position: usize) -> Option<&Entry> {
+        self.held().get(position.wrapping_sub(1))
+    }
+
+    fn time_at(&self, position: usize) -> Time {
+        self.entry(position).map_or(Time::ZERO, |entry| entry.time)
+    }
+
+    pub fn last_term(&self) -> u16 {
+        self.entry(self.length).map_or(0, |entry| entry.term)
+    }
+
+    pub fn is_behind(&self, other: &Log) -> bool {
+        (self.last_term(), self.length) < (other.last_term(), other.length)
+    }
+
+    /// The length of the longest common beginning.
+    fn common_with(&self, other: &Log) -> usize {
+        let pairs = self.held().iter().zip(other.held());
+        pairs.take_while(|(mine, others)| mine == others).count()
+    }
+
+    /// The value of the last entry for the key among the first so many; 0 if none.
+    fn value_of(&self, key: u8, among: usize) -> u16 {
+        let last = self.entries[..among].iter().rev().find(|entry| entry.key == key);
+        last.map_or(0, |entry| entry.value)
+    }
+
+    /// Only for a log that isn't full.
+    fn push(&mut self, entry: Entry) {
+        self.entries[self.length] = entry;
+        self.length += 1;
+    }
+
+    /// Keeps its own entries, even where the other's beginning differs from them.
+    fn append_rest_of(&mut self, other: &Log) {
+        let rest = self.length..other.length;
+        self.entries[rest.clone()].copy_from_slice(&other.entries[rest]);
+        self.length = other.length;
+    }
+
+    fn well_formed(&self) -> bool {
+        self.length <= ENTRIES
+            && self.held().iter().all(Entry::in_range)
+            && self.held().windows(2).all(|two| two[0].may_precede(&two[1]))
+            && self.entries[self.length..].iter().all(|slot| *slot == Entry::ZERO)
+    }
+}
+
+impl Server {
+    /// What stands in a place past the server count.
+    const ZERO: Server = Server {
+        log: Log::EMPTY,
+        term: 0,
+        role: Secondary,
+        commit_point: 0,
+        wall_clock: 0,
+        cluster_time: Time::ZERO,
+    };
+
+    const FRESH: Server = Server { wall_clock: 1, ..Server::ZERO };
+
+    pub fn applied_time(&self) -> Time {
+        self.log.time_at(self.log.length)
+    }
+
+    pub fn commit_time(&self) -> Time {
+        self.log.time_at(self.commit_point)
+    }
+
+    /// What a pull and a rollback take over besides the log.
+    fn take_greater(&mut self, other: &Server) {
+        self.term = self.term.max(other.term);
+        self.cluster_time = self.cluster_time.max(other.cluster_time);
+        self.commit_point = self.commit_point.max(other.commit_point);
+    }
+
+    /// The last entry bounds all terms and times, since neither falls along a log.
+    fn well_formed(&self) -> bool {
+        self.log.well_formed()
+            && self.log.last_term() <= self.term
+            && self.applied_time() <= self.cluster_time
+            && self.commit_point <= self.log.length
+            && (self.role == Secondary || self.term >= 1)
+            && self.wall_clock >= 1
+    }
+}
+
+impl Numbers {
+    /// The answer of the kinds that fill nothing.
+    pub const NONE: Numbers = Numbers { number: 0, term: 0, time: Time::ZERO };
+
+    /// A position or length, which in a well-formed record is at most 32.
+    fn place(place: usize) -> Numbers {
+        Numbers { number: place as u16, ..Numbers::NONE }
+    }
+
+    fn entry_at(position: usize, entry: &Entry) -> Numbers {
+        Numbers { term: entry.term, time: entry.time, ..Numbers::place(position) }
+    }
+}
+
+impl Step {
+    pub fn kind(&self) -> u8 {
+        match self {
+            Step::Start { .. } => 0,
+            Step::Elect { .. } => 1,
+            Step::StepDown { .. } => 2,
+            Step::Hears { .. } => 3,
+            Step::Pulls { .. } => 4,
+            Step::RollsBack { .. } => 5,
+            Step::Writes { .. } => 6,
+            Step::Advances { .. } => 7,
+            Step::WallClock { .. } => 8,
+            Step::Restarts { .. } => 9,
+            Step::LocalRead { .. } => 10,
+            Step::MajorityRead { .. } => 11,
+            Step::Acknowledged { .. } => 12,
+            Step::ClocksAgree => 13,
+        }
+    }
+}
+
+/// Takes one step in place; a refused one leaves the record as it was.
+pub fn step(cluster: &mut Cluster, step: &Step) -> Answer {
+    let looks_at_record = !matches!(step, Step::Start { .. });
+    refuse_if(looks_at_record && !cluster.well_formed(), NotWellFormed)?;
+    match *step {
+        Step::Start { servers } => cluster.start(servers.into()),
+        Step::Elect { a, set } => cluster.elect(a.into(), set),
+        Step::StepDown { a } => cluster.step_down(a.into()),
+        Step::Hears { a, b } => cluster.hears(a.into(), b.into()),
+        Step::Pulls { a, b } => cluster.pulls(a.into(), b.into()),
+        Step::RollsBack { a, b } => cluster.rolls_back(a.into(), b.into()),
+        Step::Writes { a, key, value } => cluster.writes(a.into(), key, value),
+        Step::Advances { a } => cluster.advances(a.into()),
+        Step::WallClock { a } => cluster.wall_clock(a.into()),
+        Step::Restarts { a } => cluster.restarts(a.into()),
+        Step::LocalRead { a, key, time } => cluster.local_read(a.into(), key, time),
+        Step::MajorityRead { a, key, time } => cluster.majority_read(a.into(), key, time),
+        Step::Acknowledged { a, count, position, term } => {
+            cluster.acknowledged(a.into(), count.into(), position.into(), term)
+        }
+        Step::ClocksAgree => cluster.clocks_agree(),
+    }
+}
+
+/// What the steps share.
+impl Cluster {
+    /// The record before the first start.
+    pub const ZERO: Cluster = Cluster { count: 0, servers: [Server::ZERO; SERVERS] };
+
+    fn fresh(count: usize) -> Cluster {
+        let mut cluster = Cluster { count, ..Cluster::ZERO };
+        cluster.servers[..count].fill(Server::FRESH);
+        cluster
+    }
+
+    fn well_formed(&self) -> bool {
+        (2..=SERVERS).contains(&self.count)
+            && self.counted().iter().all(Server::well_formed)
+            && self.servers[self.count..].iter().all(|place| *place == Server::ZERO)
+    }
+
+    /// The servers below the count, which has to be at most seven.
+    pub fn counted(&self) -> &[Server] {
+        &self.servers[..self.count]
+    }
+
+    pub fn is_majority(&self, members: usize) -> bool {
+        2 * members > self.count
+    }
+
+    fn server(&mut self, a: usize) -> Result<&mut Server, Condition> {
+        refuse_if(a >= self.count, ServerOutside)?;
+        Ok(&mut self.servers[a])
+    }
+
+    /// Both servers of kinds 3, 4 and 5; once both are counted, only a = b can overlap.
+    fn two_servers(&mut self, a: usize, b: usize) -> Result<(&mut Server, &Server), Condition> {
+        refuse_if(a >= self.count, ServerOutside)?;
+        refuse_if(b >= self.count, OtherServerOutside)?;
+        let both = self.servers.get_disjoint_mut([a, b]);
+        let [a, b] = both.map_err(|_| SameServer)?;
+        Ok((a, b))
+    }
+
+    /// How many counted servers hold an entry equal to this at this position.
+    fn holders(&self, position: usize, entry: &Entry) -> usize {
+        let holds = |server: &&Server| server.log.entry(position) == Some(entry);
+        self.counted().iter().filter(holds).count()
+    }
+
+    /// Whether a position above a's commit point and inside its log passes at a.
+    fn passes(&self, a: &Server, position: usize) -> bool {
+        let entry = &a.log.entries[position - 1];
+        let counts = |s: &&Server| s.term == a.term && s.log.entry(position) == Some(entry);
+        entry.term == a.term && self.is_majority(self.counted().iter().filter(counts).count())
+    }
+}
+
+/// One function a kind: its tests in order, then what holds afterwards.
+impl Cluster {
+    fn start(&mut self, servers: usize) -> Answer {
+        refuse_if(servers < 2, StartBelow2)?;
+        refuse_if(servers > SERVERS, StartAbove7)?;
+        *self = Cluster::fresh(servers);
+        Ok(Numbers::NONE)
+    }
+
+    fn elect(&mut self, a: usize, set: u8) -> Answer {
+        let is_member = |i: usize| set >> i & 1 == 1;
+        refuse_if(a >= self.count, ServerOutside)?;
+        refuse_if(set >> self.count != 0, MemberOutside)?;
+        refuse_if(!self.is_majority(set.count_ones() as usize), NotAMajority)?;
+        refuse_if(!is_member(a), OutsideItsSet)?;
+        let candidate = &self.servers[a];
+        let members = || self.counted().iter().enumerate().filter(|(i, _)| is_member(*i));
+        refuse_if(members().any(|(_, m)| m.term > candidate.term), MemberTermAbove)?;
+        refuse_if(members().any(|(_, m)| candidate.log.is_behind(&m.log)), BehindAMember)?;
+        let term = candidate.term.checked_add(1).ok_or(TermAtLimit)?;
+        for i in (0..self.count).filter(|i| is_member(*i)) {
+            self.servers[i].term = term;
+            self.servers[i].role = if i == a { Primary } else { Secondary };
+        }
+        Ok(Numbers { term, ..Numbers::NONE })
+    }
+
+    fn step_down(&mut self, a: usize) -> Answer {
+        let a = self.server(a)?;
+        refuse_if(a.role != Primary, NotPrimary)?;
+        a.role = Secondary;
+        Ok(Numbers::NONE)
+    }
+
+    fn hears(&mut self, a: usize, b: usize) -> Answer {
+        let (a, b) = self.two_servers(a, b)?;
+        a.cluster_time = a.cluster_time.max(b.cluster_time);
+        if b.term > a.term {
+            a.term = b.term;
+            a.role = Secondary;
+        }
+        // Above a's commit point b's is at least 1, so b has an entry there and a must hold it.
+        let n = b.commit_point;
+        if n > a.commit_point && a.log.entry(n) == b.log.entry(n) {
+            a.commit_point = n;
+        }
+        Ok(Numbers::NONE)
+    }
+
+    fn pulls(&mut self, a: usize, b: usize) -> Answer {
+        let (a, b) = self.two_servers(a, b)?;
+        refuse_if(a.role != Secondary, NotSecondary)?;
+        refuse_if(a.log.length >= b.log.length, NotShorter)?;
+        // At position 0 neither has an entry, so an empty log passes.
+        let n = a.log.length;
+        refuse_if(a.log.entry(n) != b.log.entry(n), LastEntryDiffers)?;
+        a.log.append_rest_of(&b.log);
+        a.take_greater(b);
+        Ok(Numbers::place(a.log.length))
+    }
+
+    fn rolls_back(&mut self, a: usize, b: usize) -> Answer {
+        let (a, b) = self.two_servers(a, b)?;
+        refuse_if(a.role != Secondary, NotSecondary)?;
+        refuse_if(a.log.length == 0, LogEmpty)?;
+        refuse_if(a.log.last_term() >= b.log.last_term(), LastTermNotBelow)?;
+        let common = a.log.common_with(&b.log);
+        refuse_if(common == a.log.length, ABeginning)?;
+        refuse_if(common < a.commit_point, CommonBelowCommitPoint)?;
+        // A common beginning and then the rest of b's log is b's log.
+        a.log = b.log;
+        a.take_greater(b);
+        Ok(Numbers::place(a.log.length))
+    }
+
+    fn writes(&mut self, a: usize, key: u8, value: u16) -> Answer {
+        let a = self.server(a)?;
+        refuse_if(key > KEY_MAX, KeyAbove15)?;
+        refuse_if(value == 0, ValueZero)?;
+        refuse_if(a.role != Primary, NotPrimary)?;
+        refuse_if(a.log.length == ENTRIES, LogFull)?;
+        let time = a.cluster_time.tick(a.wall_clock).ok_or(TickAtLimit)?;
+        let entry = Entry { term: a.term, key, value, time };
+        a.cluster_time = time;
+        a.log.push(entry);
+        Ok(Numbers::entry_at(a.log.length, &entry))
+    }
+
+    fn advances(&mut self, a: usize) -> Answer {
+        refuse_if(a >= self.count, ServerOutside)?;
+        let server = &self.servers[a];
+        refuse_if(server.role != Primary, NotPrimary)?;
+        let mut above = (server.commit_point + 1..=server.log.length).rev();
+        let highest = above.find(|&position| self.passes(server, position));
+        let commit_point = highest.ok_or(NothingPasses)?;
+        self.servers[a].commit_point = commit_point;
+        Ok(Numbers::place(commit_point))
+    }
+
+    fn wall_clock(&mut self, a: usize) -> Answer {
+        let a = self.server(a)?;
+        a.wall_clock = a.wall_clock.checked_add(1).ok_or(WallClockAtLimit)?;
+        Ok(Numbers::NONE)
+    }
+
+    fn restarts(&mut self, a: usize) -> Answer {
+        let a = self.server(a)?;
+        a.role = Secondary;
+        a.commit_point = 0;
+        a.cluster_time = a.applied_time();
+        Ok(Numbers::NONE)
+    }
+
+    fn local_read(&mut self, a: usize, key: u8, asked: Time) -> Answer {
+        let a = self.server(a)?;
+        refuse_if(key > KEY_MAX, KeyAbove15)?;
+        let time = a.applied_time();
+        refuse_if(time < asked, AppliedTimeBefore)?;
+        Ok(Numbers { number: a.log.value_of(key, a.log.length), time, ..Numbers::NONE })
+    }
+
+    fn majority_read(&mut self, a: usize, key: u8, asked: Time) -> Answer {
+        let a = self.server(a)?;
+        refuse_if(key > KEY_MAX, KeyAbove15)?;
+        let time = a.commit_time();
+        refuse_if(time < asked, CommitTimeBefore)?;
+        Ok(Numbers { number: a.log.value_of(key, a.commit_point), time, ..Numbers::NONE })
+    }
+
+    /// Refusal 10 comes before 8: only an entry of that term can be waited for.
+    fn acknowledged(&mut self, a: usize, count: usize, position: usize, term: u16) -> Answer {
+        refuse_if(a >= self.count, ServerOutside)?;
+        refuse_if(count > self.count, CountAbove)?;
+        refuse_if(position == 0, PositionZero)?;
+        refuse_if(position > ENTRIES, PositionAbove32)?;
+        refuse_if(term == 0, TermZero)?;
+        let server = &self.servers[a];
+        let entry = server.log.entry(position).ok_or(NoEntry)?;
+        refuse_if(entry.term != term, OtherTerm)?;
+        refuse_if(count == 0 && server.commit_point < position, CommitPointBelow)?;
+        refuse_if(self.holders(position, entry) < count, FewerThanCount)?;
+        Ok(Numbers::entry_at(position, entry))
+    }
+
+    fn clocks_agree(&mut self) -> Answer {
+        let greatest = self.counted().iter().fold(0, |clock, server| clock.max(server.wall_clock));
+        for server in &mut self.servers[..self.count] {
+            server.wall_clock = greatest;
+        }
+        Ok(Numbers::NONE)
+    }
+}
+
+#[cfg(test)]
+#[path = "model_tests.rs"]
+mod tests;

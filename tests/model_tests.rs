@@ -1,0 +1,377 @@
+//! Record-level tests of the model: document 01's twelve facts, and the cases that no lines reach
+//! from a fresh start.
+
+use super::*;
+
+/// Same term and position mean equal entries, as in document 01's list of facts.
+fn entry(term: u16, position: usize) -> Entry {
+    Entry { term, key: 5, value: 41, time: Time { p: term, l: position as u16 } }
+}
+
+fn log(terms: &[u16]) -> Log {
+    let mut log = Log::EMPTY;
+    for &term in terms {
+        log.push(entry(term, log.length + 1));
+    }
+    log
+}
+
+/// A secondary of its last entry's term, at the greatest time.
+fn holding(terms: &[u16]) -> Server {
+    let log = log(terms);
+    let cluster_time = Time { p: 65_535, l: 65_535 };
+    Server { log, term: log.last_term(), cluster_time, ..Server::FRESH }
+}
+
+fn primary(term: u16, terms: &[u16]) -> Server {
+    Server { term, role: Primary, ..holding(terms) }
+}
+
+fn cluster(servers: &[Server]) -> Cluster {
+    let mut cluster = Cluster::fresh(servers.len());
+    cluster.servers[..servers.len()].copy_from_slice(servers);
+    cluster
+}
+
+/// Takes a step from a well-formed record, and sees that a refusal leaves it and all else keeps it
+/// well formed.
+fn take(cluster: &mut Cluster, taken: Step) -> Answer {
+    assert!(cluster.well_formed());
+    let before = *cluster;
+    let answer = step(cluster, &taken);
+    assert!(cluster.well_formed());
+    assert!(answer.is_ok() || *cluster == before);
+    answer
+}
+
+fn refused(servers: &[Server], taken: Step) -> Condition {
+    take(&mut cluster(servers), taken).expect_err("the step is refused")
+}
+
+/// The cluster after a step that is done.
+fn after(servers: &[Server], taken: Step) -> Cluster {
+    let mut cluster = cluster(servers);
+    take(&mut cluster, taken).expect("the step is done");
+    cluster
+}
+
+/// The entry, and four that differ from it in one part alone.
+fn others(entry: Entry) -> [Entry; 4] {
+    let Entry { term, key, value, time } = entry;
+    [
+        Entry { term: term + 1, ..entry },
+        Entry { key: key + 1, ..entry },
+        Entry { value: value + 1, ..entry },
+        Entry { time: Time { l: time.l + 1, ..time }, ..entry },
+    ]
+}
+
+/// The server with another entry in place of one it holds.
+fn with(server: &Server, position: usize, entry: Entry) -> Server {
+    let mut server = *server;
+    server.log.entries[position - 1] = entry;
+    server.term = server.term.max(entry.term);
+    server
+}
+
+#[test]
+fn majorities_and_times() {
+    let of = |count: usize| Cluster::fresh(count);
+    assert!(of(3).is_majority(2));
+    assert!(!of(4).is_majority(2));
+    assert!(!of(2).is_majority(1));
+    let time = |p: u16, l: u16| Time { p, l };
+    assert!(time(1, 9) < time(2, 0));
+    assert_eq!(time(0, 0).tick(1), Some(time(1, 0)));
+    assert_eq!(time(3, 4).tick(2), Some(time(3, 5)));
+    assert_eq!(time(1, 65_535).tick(2), Some(time(2, 0)));
+    assert_eq!(time(2, 65_535).tick(2), None);
+}
+
+#[test]
+fn logs_side_by_side() {
+    assert_eq!(log(&[1, 1, 2]).common_with(&log(&[1, 1, 3, 3])), 2);
+    let (pulls, rolls_back) = (Step::Pulls { a: 0, b: 1 }, Step::RollsBack { a: 0, b: 1 });
+    assert_eq!(after(&[holding(&[1]), holding(&[1, 2])], pulls).servers[0].log, log(&[1, 2]));
+    assert_eq!(refused(&[holding(&[2]), holding(&[1, 3])], pulls), LastEntryDiffers);
+    let rolled = after(&[holding(&[1, 2]), holding(&[1, 3])], rolls_back);
+    assert_eq!(rolled.servers[0].log, log(&[1, 3]));
+    assert_eq!(refused(&[holding(&[1]), holding(&[1, 3])], rolls_back), ABeginning);
+}
+
+#[test]
+fn entries_of_earlier_terms_do_not_pass() {
+    let other = Server { term: 4, ..holding(&[1, 2]) };
+    let servers = [primary(4, &[1, 2, 4]), other, other, holding(&[]), holding(&[])];
+    assert_eq!(refused(&servers, Step::Advances { a: 0 }), NothingPasses);
+}
+
+#[test]
+fn members_of_a_later_term_do_not_count() {
+    let (current, later) = (holding(&[4]), Server { term: 5, ..holding(&[4]) });
+    let advances = Step::Advances { a: 0 };
+    assert_eq!(refused(&[primary(4, &[4]), later, later], advances), NothingPasses);
+    let advanced = after(&[primary(4, &[4]), current, later], advances);
+    assert_eq!(advanced.servers[0].commit_point, 1);
+}
+
+#[test]
+fn a_rollback_below_the_commit_point_is_refusal_9() {
+    let committed = Server { commit_point: 2, ..holding(&[1, 2]) };
+    let condition = refused(&[committed, holding(&[1, 3])], Step::RollsBack { a: 0, b: 1 });
+    assert_eq!((condition, condition.number()), (CommonBelowCommitPoint, 9));
+    let kept = Server { commit_point: 1, ..holding(&[1, 2]) };
+    let rolled = after(&[kept, holding(&[1, 3])], Step::RollsBack { a: 0, b: 1 });
+    assert_eq!(rolled.servers[0].commit_point, 1);
+}
+
+#[test]
+fn a_write_that_must_raise_l_past_its_limit_is_refusal_7() {
+    let writes = Step::Writes { a: 0, key: 0, value: 1 };
+    let condition = refused(&[primary(1, &[1]), holding(&[])], writes);
+    assert_eq!((condition, condition.number()), (TickAtLimit, 7));
+    assert_eq!(refused(&[primary(1, &[1; ENTRIES]), holding(&[])], writes), LogFull);
+    let early = Server { cluster_time: Time { p: 1, l: 65_535 }, wall_clock: 2, ..primary(1, &[]) };
+    let written = after(&[early, holding(&[])], writes);
+    assert_eq!(written.servers[0].cluster_time, Time { p: 2, l: 0 });
+}
+
+#[test]
+fn conditions_are_tested_in_order() {
+    let top = Server { term: 65_535, ..holding(&[]) };
+    let elect = Step::Elect { a: 0, set: 3 };
+    assert_eq!(refused(&[holding(&[]), top], elect), MemberTermAbove);
+    assert_eq!(refused(&[top, holding(&[1])], elect), BehindAMember);
+    assert_eq!(refused(&[top, top], elect), TermAtLimit);
+    assert_eq!(refused(&[top, top], Step::Elect { a: 0, set: 0x80 }), MemberOutside);
+    let far = Step::Acknowledged { a: 0, count: 0, position: 33, term: 1 };
+    assert_eq!(refused(&[top, top], far), PositionAbove32);
+    let other_term = Step::Acknowledged { a: 0, count: 0, position: 1, term: 2 };
+    assert_eq!(refused(&[holding(&[1]), top], other_term), OtherTerm);
+}
+
+#[test]
+fn hearing_takes_a_commit_point_only_at_an_equal_entry() {
+    let told = Server { commit_point: 1, ..holding(&[1]) };
+    let hears = Step::Hears { a: 0, b: 1 };
+    assert_eq!(after(&[holding(&[1]), told], hears).servers[0].commit_point, 1);
+    assert_eq!(after(&[holding(&[]), told], hears).servers[0].commit_point, 0);
+    for other in others(entry(1, 1)) {
+        let heard = after(&[with(&holding(&[1]), 1, other), told], hears);
+        assert_eq!(heard.servers[0].commit_point, 0);
+    }
+}
+
+#[test]
+fn hearing_compares_one_entry_and_raises_a_primary_too() {
+    let told = Server { commit_point: 2, ..holding(&[1, 2]) };
+    let odd = with(&primary(2, &[1, 2]), 1, Entry { value: 7, ..entry(1, 1) });
+    let heard = after(&[odd, told], Step::Hears { a: 0, b: 1 });
+    assert_eq!(heard.servers[0], Server { commit_point: 2, ..odd });
+}
+
+#[test]
+fn a_higher_term_makes_a_primary_secondary() {
+    let heard = after(&[primary(2, &[1]), holding(&[3])], Step::Hears { a: 0, b: 1 });
+    assert_eq!(heard.servers[0], Server { term: 3, ..holding(&[1]) });
+    let equal = after(&[primary(3, &[1]), holding(&[3])], Step::Hears { a: 0, b: 1 });
+    assert_eq!(equal.servers[0], primary(3, &[1]));
+}
+
+#[test]
+fn a_pull_joins_only_at_an_equal_entry() {
+    for other in others(entry(1, 1)) {
+        let servers = [with(&holding(&[1]), 1, other), holding(&[1, 2])];
+        assert_eq!(refused(&servers, Step::Pulls { a: 0, b: 1 }), LastEntryDiffers);
+    }
+}
+
+#[test]
+fn a_pull_keeps_its_own_beginning() {
+    let own = Entry { value: 7, ..entry(1, 1) };
+    let puller = with(&holding(&[1, 2]), 1, own);
+    let pulled = after(&[puller, holding(&[1, 2, 3])], Step::Pulls { a: 0, b: 1 });
+    assert_eq!(pulled.servers[0], with(&holding(&[1, 2, 3]), 1, own));
+}
+
+#[test]
+fn a_pull_and_a_rollback_take_the_greater_of_both() {
+    let ahead =
+        Server { term: 9, cluster_time: Time { p: 9, l: 9 }, commit_point: 1, ..holding(&[1]) };
+    let behind = Server { commit_point: 0, cluster_time: Time { p: 9, l: 8 }, ..holding(&[1, 2]) };
+    let pulled = after(&[ahead, behind], Step::Pulls { a: 0, b: 1 });
+    assert_eq!(pulled.servers[0], Server { log: log(&[1, 2]), ..ahead });
+    let split = Server { term: 3, log: log(&[1, 2]), commit_point: 0, ..ahead };
+    let winner = Server { term: 4, commit_point: 2, ..holding(&[1, 3]) };
+    let rolled = after(&[split, winner], Step::RollsBack { a: 0, b: 1 });
+    assert_eq!(rolled.servers[0], winner);
+}
+
+#[test]
+fn a_rollback_sees_each_part_of_an_entry() {
+    let rolls_back = Step::RollsBack { a: 0, b: 1 };
+    let winner = holding(&[1, 3]);
+    for other in others(entry(1, 1)) {
+        let rolled = after(&[with(&holding(&[1]), 1, other), winner], rolls_back);
+        assert_eq!(rolled.servers[0].log, winner.log);
+    }
+}
+
+#[test]
+fn an_equal_entry_above_the_first_difference_is_not_common() {
+    let rolls_back = Step::RollsBack { a: 0, b: 1 };
+    let loser = with(&holding(&[1, 2, 2]), 1, Entry { value: 7, ..entry(1, 1) });
+    let winner = holding(&[1, 2, 3]);
+    assert_eq!(after(&[loser, winner], rolls_back).servers[0], winner);
+    let committed = Server { commit_point: 1, ..loser };
+    assert_eq!(refused(&[committed, winner], rolls_back), CommonBelowCommitPoint);
+}
+
+#[test]
+fn only_equal_entries_count_for_a_commit_point() {
+    let advances = Step::Advances { a: 0 };
+    let leader = primary(2, &[2]);
+    assert_eq!(after(&[leader, holding(&[2])], advances).servers[0].commit_point, 1);
+    for other in &others(entry(2, 1))[1..] {
+        let servers = [leader, with(&holding(&[2]), 1, *other)];
+        assert_eq!(refused(&servers, advances), NothingPasses);
+    }
+}
+
+#[test]
+fn only_equal_entries_are_acknowledged() {
+    let asked = Step::Acknowledged { a: 0, count: 2, position: 1, term: 1 };
+    let holder = holding(&[1]);
+    assert_eq!(
+        take(&mut cluster(&[holder, holder]), asked),
+        Ok(Numbers::entry_at(1, &entry(1, 1)))
+    );
+    for other in others(entry(1, 1)) {
+        assert_eq!(refused(&[holder, with(&holder, 1, other)], asked), FewerThanCount);
+    }
+}
+
+#[test]
+fn the_highest_passing_position_is_taken() {
+    let servers = [primary(2, &[1, 2, 2, 2]), holding(&[1, 2, 2]), holding(&[1, 2])];
+    let advanced = after(&servers, Step::Advances { a: 0 });
+    assert_eq!(advanced.servers[0].commit_point, 3);
+    assert_eq!(refused(advanced.counted(), Step::Advances { a: 0 }), NothingPasses);
+}
+
+#[test]
+fn two_primaries_of_one_term_are_each_other_s_voters() {
+    let elected = after(&[primary(2, &[1]), primary(2, &[])], Step::Elect { a: 0, set: 3 });
+    assert_eq!(elected.servers[0], primary(3, &[1]));
+    assert_eq!(elected.servers[1], Server { term: 3, ..holding(&[]) });
+}
+
+#[test]
+fn a_first_entry_may_be_at_the_zero_time() {
+    let mut server = with(&holding(&[1]), 1, Entry { time: Time::ZERO, ..entry(1, 1) });
+    server.cluster_time = Time::ZERO;
+    assert!(cluster(&[server, holding(&[])]).well_formed());
+}
+
+#[test]
+fn a_refused_start_leaves_any_record() {
+    let mut odd = Cluster { count: usize::MAX, servers: [primary(0, &[3]); SERVERS] };
+    odd.servers[2].log.length = usize::MAX;
+    for servers in [0, 1, 8, 255] {
+        let mut after = odd;
+        let answer = step(&mut after, &Step::Start { servers });
+        assert_eq!((answer.map_err(Condition::number), after), (Err(3), odd));
+    }
+    assert_eq!(step(&mut odd, &Step::Start { servers: 7 }), Ok(Numbers::NONE));
+    assert_eq!(odd, Cluster::fresh(7));
+}
+
+/// Every clause of document 01's sentence, each broken alone in the record of the test below.
+const BROKEN: &[fn(&mut Cluster)] = &[
+    |c| *c = Cluster::ZERO,
+    |c| *c = cluster(&c.servers[..1]),
+    |c| *c = Cluster { count: 8, ..cluster(&[c.servers[0]; SERVERS]) },
+    |c| *c = Cluster { count: usize::MAX, ..cluster(&[c.servers[0]; SERVERS]) },
+    |c| c.servers[0].log = Log { length: ENTRIES + 1, ..log(&[1; ENTRIES]) },
+    |c| c.servers[0].log = Log { length: usize::MAX, ..log(&[1; ENTRIES]) },
+    |c| c.servers[0].log.entries[0].term = 0,
+    |c| c.servers[0] = with(&c.servers[0], 2, Entry { term: 3, ..entry(2, 2) }),
+    |c| c.servers[0].term = 1,
+    |c| c.servers[0].log.entries[1].key = 16,
+    |c| c.servers[0].log.entries[1].value = 0,
+    |c| c.servers[0].log.entries[1].time = c.servers[0].log.entries[0].time,
+    |c| c.servers[0].log.entries[0].time = c.servers[0].log.entries[2].time,
+    |c| c.servers[0].cluster_time = Time { p: 2, l: 2 },
+    |c| c.servers[0].commit_point = 4,
+    |c| c.servers[1].role = Primary,
+    |c| c.servers[1].wall_clock = 0,
+    |c| c.servers[0].log.entries[3].term = 1,
+    |c| c.servers[0].log.entries[31].key = 1,
+    |c| c.servers[1].log.entries[0].value = 1,
+    |c| c.servers[1].log.entries[1].time.p = 1,
+    |c| c.servers[1].log.entries[2].time.l = 1,
+    |c| c.servers[2].term = 1,
+    |c| c.servers[2].role = Primary,
+    |c| c.servers[2].commit_point = 1,
+    |c| c.servers[2].wall_clock = 1,
+    |c| c.servers[3].cluster_time = Time { p: 0, l: 1 },
+    |c| c.servers[6].log.length = 1,
+    |c| c.servers[6].log.entries[31].time.l = 1,
+];
+
+/// One step of each kind that looks at the record.
+const LOOKING: [Step; 13] = [
+    Step::Elect { a: 0, set: 3 },
+    Step::StepDown { a: 0 },
+    Step::Hears { a: 0, b: 1 },
+    Step::Pulls { a: 1, b: 0 },
+    Step::RollsBack { a: 1, b: 0 },
+    Step::Writes { a: 0, key: 0, value: 1 },
+    Step::Advances { a: 0 },
+    Step::WallClock { a: 0 },
+    Step::Restarts { a: 0 },
+    Step::LocalRead { a: 0, key: 0, time: Time::ZERO },
+    Step::MajorityRead { a: 0, key: 0, time: Time::ZERO },
+    Step::Acknowledged { a: 0, count: 0, position: 1, term: 1 },
+    Step::ClocksAgree,
+];
+
+#[test]
+fn each_broken_clause_is_refusal_2() {
+    let whole = cluster(&[primary(2, &[1, 2, 2]), Server { term: 0, ..holding(&[]) }]);
+    assert!(whole.well_formed());
+    for (number, breaks) in BROKEN.iter().enumerate() {
+        let mut broken = whole;
+        breaks(&mut broken);
+        for taken in &LOOKING {
+            let mut after = broken;
+            let answer = step(&mut after, taken).map_err(Condition::number);
+            assert_eq!((answer, after), (Err(2), broken), "broken clause {number}, {taken:?}");
+        }
+    }
+}
+
+/// Servers that sessions never bring together.
+fn odd_servers() -> Vec<Server> {
+    let late = Server { term: 65_535, ..holding(&[1, 2]) };
+    let early = Server { cluster_time: Time::ZERO, ..holding(&[]) };
+    let first = with(&holding(&[1, 2, 3]), 1, Entry { time: Time::ZERO, ..entry(1, 1) });
+    let mut odd = vec![late, early, first, holding(&[2, 2]), primary(2, &[1, 2]), primary(2, &[])];
+    odd.extend(others(entry(1, 1)).map(|other| with(&holding(&[1]), 1, other)));
+    odd.extend([1, 2].map(|commit_point| Server { commit_point, ..late }));
+    odd.extend([31, 32].map(|length| primary(3, &[3; ENTRIES][..length])));
+    odd
+}
+
+/// `take` sees to what is promised of every well-formed record.
+#[test]
+fn every_step_from_an_odd_record_keeps_it_well_formed() {
+    for a in odd_servers() {
+        for b in odd_servers() {
+            for taken in &LOOKING {
+                let _ = take(&mut cluster(&[a, b]), *taken);
+                let _ = take(&mut cluster(&[b, a, a]), *taken);
+            }
+        }
+    }
+}

@@ -1,0 +1,186 @@
+//! The plain program: step lines in, answer lines out, one for each. `plain --help` tells the use.
+
+mod lines;
+mod model;
+mod tally;
+
+use lines::{LINE, put_numbers, read_line, write_bytes};
+use model::{Answer, Cluster, Numbers, step};
+use std::io::{self, BufRead, BufReader, BufWriter, ErrorKind, Write};
+use std::process::ExitCode;
+use tally::Tally;
+
+const HELP: &str = "\
+A model of one small replica set, run over step lines.
+
+plain < steps            writes one answer line for each step line
+plain --tally < steps    writes instead how often each kind was done and how often each condition
+                         of its refusals was the one that refused; exits 1 and names them where
+                         something that lines can reach never occurred
+plain --help             writes this
+";
+
+/// One block of input or output.
+const BLOCK: usize = 1 << 16;
+/// The bytes of an answer frame.
+const ANSWER_FRAME: usize = 9;
+/// The characters of an answer line, its line feed too.
+const ANSWER_LINE: usize = 2 * ANSWER_FRAME + 1;
+
+fn main() -> ExitCode {
+    let arguments: Vec<String> = std::env::args().skip(1).collect();
+    let done = match arguments.iter().map(String::as_str).collect::<Vec<_>>()[..] {
+        [] => write_answers().map(|()| ExitCode::SUCCESS),
+        ["--tally"] => write_tally(),
+        ["--help"] => io::stdout().write_all(HELP.as_bytes()).map(|()| ExitCode::SUCCESS),
+        _ => io::stderr().write_all(HELP.as_bytes()).map(|()| ExitCode::from(2)),
+    };
+    done.unwrap_or_else(|error| {
+        eprintln!("plain: {error}");
+        ExitCode::from(2)
+    })
+}
+
+fn write_answers() -> io::Result<()> {
+    let mut output = BufWriter::with_capacity(BLOCK, io::stdout().lock());
+    answer_lines(standard_input(), &mut output)?;
+    output.flush()
+}
+
+fn write_tally() -> io::Result<ExitCode> {
+    let mut cluster = Cluster::ZERO;
+    let mut tally = Tally::NONE;
+    each_line(standard_input(), |line| {
+        let read = read_line(line);
+        let answer = read.and_then(|read| step(&mut cluster, &read));
+        tally.count(read.ok(), answer);
+        Ok(())
+    })?;
+    let all_reached = tally.write(&mut io::stdout().lock())?;
+    Ok(if all_reached { ExitCode::SUCCESS } else { ExitCode::FAILURE })
+}
+
+fn standard_input() -> impl BufRead {
+    BufReader::with_capacity(BLOCK, io::stdin().lock())
+}
+
+fn answer_lines(input: impl BufRead, output: &mut impl Write) -> io::Result<()> {
+    let mut cluster = Cluster::ZERO;
+    each_line(input, |line| {
+        let answer = read_line(line).and_then(|read| step(&mut cluster, &read));
+        output.write_all(&answer_line(answer))
+    })
+}
+
+fn answer_line(answer: Answer) -> [u8; ANSWER_LINE] {
+    let (refusal, numbers) = match answer {
+        Ok(numbers) => (0, numbers),
+        Err(condition) => (condition.number(), Numbers::NONE),
+    };
+    let mut frame = [refusal; ANSWER_FRAME];
+    put_numbers(&mut frame[1..], &numbers);
+    let mut line = [b'\n'; ANSWER_LINE];
+    write_bytes(&mut line, &frame);
+    line
+}
+
+/// The kept part of a line: one byte more than a frame's, so that a longer line shows as longer.
+struct Kept {
+    bytes: [u8; LINE + 1],
+    length: usize,
+}
+
+impl Kept {
+    fn add(&mut self, piece: &[u8]) {
+        let free = &mut self.bytes[self.length..];
+        let taken = piece.len().min(free.len());
+        free[..taken].copy_from_slice(&piece[..taken]);
+        self.length += taken;
+    }
+
+    fn line(&self) -> &[u8] {
+        &self.bytes[..self.length]
+    }
+}
+
+/// Calls `then` with the kept part of every line; a last one without a line feed counts if it
+/// isn't empty.
+fn each_line(
+    mut input: impl BufRead,
+    mut then: impl FnMut(&[u8]) -> io::Result<()>,
+) -> io::Result<()> {
+    let mut kept = Kept { bytes: [0; LINE + 1], length: 0 };
+    loop {
+        let block = match input.fill_buf() {
+            Err(error) if error.kind() == ErrorKind::Interrupted => continue,
+            block => block?,
+        };
+        if block.is_empty() {
+            break;
+        }
+        let mut rest = block;
+        while let Some(end) = rest.iter().position(|&character| character == b'\n') {
+            kept.add(&rest[..end]);
+            then(kept.line())?;
+            kept.length = 0;
+            rest = &rest[end + 1..];
+        }
+        kept.add(rest);
+        let length = block.len();
+        input.consume(length);
+    }
+    if kept.length > 0 { then(kept.line()) } else { Ok(()) }
+}
+
+#[cfg(test)]
+mod tests {
+    use super::*;
+
+    /// Blocks of every small size, so that lines are cut anywhere.
+    fn answers(steps: &[u8]) -> String {
+        let in_blocks = |size: usize| {
+            let mut output = Vec::new();
+            answer_lines(BufReader::with_capacity(size, steps), &mut output).unwrap();
+            String::from_utf8(output).unwrap()
+        };
+        let whole = in_blocks(BLOCK);
+        assert!((1..40).all(|size| in_blocks(size) == whole));
+        whole
+    }
+
+    #[test]
+    fn the_printed_session() {
+        let session = [
+            ("00030000000000000000000000", "000000000000000000"),
+            ("01000003000000000000000000", "000000000100000000"),
+            ("06000000050029000000000000", "000001000100010000"),
+            ("04010000000000000000000000", "000001000000000000"),
+            ("07000000000000000000000000", "000001000000000000"),
+            ("0c000000000001000100000000", "000001000100010000"),
+            ("0b010000050000000000010000", "080000000000000000"),
+            ("03010000000000000000000000", "000000000000000000"),
+            ("0b010000050000000000010000", "000029000000010000"),
+        ];
+        let steps: Vec<&str> = session.iter().map(|pair| pair.0).collect();
+        let printed: String = session.iter().map(|pair| format!("{}\n", pair.1)).collect();
+        assert_eq!(answers(steps.join("\n").as_bytes()), printed);
+    }
+
+    #[test]
+    fn lines_are_counted_as_the_rulings_say() {
+        let bad = "010000000000000000\n";
+        assert_eq!(answers(b""), "");
+        assert_eq!(answers(b"\n"), bad);
+        assert_eq!(answers(b"x"), bad);
+        assert_eq!(answers(b"\n\n"), bad.repeat(2));
+        assert_eq!(answers(b"00030000000000000000000000\r\n"), bad);
+        assert_eq!(answers(&[b'0'; 1000]), bad);
+    }
+
+    #[test]
+    fn before_the_first_start() {
+        let steps = b"0d000000000000000000000000\n00080000000000000000000000\n0d\n";
+        let printed = "020000000000000000\n030000000000000000\n010000000000000000\n";
+        assert_eq!(answers(steps), printed);
+    }
+}

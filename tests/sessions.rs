@@ -1,0 +1,591 @@
+//! A seeded generator of test sessions. It runs the model along with the lines it writes, so that
+//! most of its steps are allowed. `sessions --help` tells the use.
+
+mod junk;
+mod lines;
+mod model;
+
+use junk::Prng;
+use lines::{FRAME, LINE, put_numbers, read_line, write_bytes};
+use model::{CONDITIONS, ENTRIES, KINDS, SERVERS};
+use model::{Cluster, Condition, Numbers, Role, Server, Step, Time, step};
+use std::io::{self, Write};
+use std::process::ExitCode;
+
+const HELP: &str = "\
+Writes seeded test sessions for the replica set.
+
+sessions SEED LINES    writes about LINES step lines; from 200,000 lines on, a session that climbs
+                       to the last term and one that climbs to the last wall clock are among them
+sessions --help        writes this
+";
+
+/// From so many lines on a run has room for both long climbs.
+const LONG_RUN: usize = 200_000;
+/// How near its limit a climb turns into an ordinary session that still climbs.
+const NEAR: u16 = 60;
+/// The ordinary steps that follow a climb.
+const AFTER_CLIMB: usize = 300;
+/// The limit of a short climb, so that terms and wall clocks of more than one byte are common.
+const PAST_A_BYTE: u16 = 280;
+/// The lines that a short climb or a session of overwriting has room in.
+const SPECIAL: usize = 1_500;
+/// How often each kind is drawn among ordinary steps.
+const WEIGHTS: [usize; KINDS] = [1, 3, 2, 12, 14, 6, 12, 8, 5, 3, 8, 10, 12, 2];
+
+fn main() -> ExitCode {
+    let arguments: Vec<String> = std::env::args().skip(1).collect();
+    if arguments == ["--help"] {
+        print!("{HELP}");
+        return ExitCode::SUCCESS;
+    }
+    let numbers: Vec<u64> = arguments.iter().flat_map(|argument| argument.parse()).collect();
+    let (2, &[seed, lines]) = (arguments.len(), &numbers[..]) else {
+        eprint!("{HELP}");
+        return ExitCode::from(2);
+    };
+    match write_run(seed, lines as usize) {
+        Ok(()) => ExitCode::SUCCESS,
+        Err(error) => {
+            eprintln!("sessions: {error}");
+            ExitCode::FAILURE
+        }
+    }
+}
+
+fn write_run(seed: u64, lines: usize) -> io::Result<()> {
+    let mut output = io::stdout().lock();
+    let mut run = Run::new(seed);
+    run.before_first_start();
+    if lines >= LONG_RUN {
+        run.sessions_until(lines / 4, &mut output)?;
+        run.climb(&TERMS, u16::MAX);
+        run.climb(&WALL_CLOCKS, u16::MAX);
+    }
+    run.sessions_until(lines, &mut output)?;
+    run.last_line();
+    run.hand_over(&mut output)
+}
+
+/// What a step frame holds besides its kind.
+struct Fields {
+    a: u8,
+    b: u8,
+    set_or_count: u8,
+    key: u8,
+    numbers: Numbers,
+}
+
+/// The fields of a step; those it doesn't use are zero.
+fn fields_of(step: &Step) -> Fields {
+    const NUMBERS: Numbers = Numbers::NONE;
+    const UNUSED: Fields = Fields { a: 0, b: 0, set_or_count: 0, key: 0, numbers: NUMBERS };
+    match *step {
+        Step::Start { servers: a }
+        | Step::StepDown { a }
+        | Step::Advances { a }
+        | Step::WallClock { a }
+        | Step::Restarts { a } => Fields { a, ..UNUSED },
+        Step::Elect { a, set } => Fields { a, set_or_count: set, ..UNUSED },
+        Step::Hears { a, b } | Step::Pulls { a, b } | Step::RollsBack { a, b } => {
+            Fields { a, b, ..UNUSED }
+        }
+        Step::Writes { a, key, value } => {
+            Fields { a, key, numbers: Numbers { number: value, ..NUMBERS }, ..UNUSED }
+        }
+        Step::LocalRead { a, key, time } | Step::MajorityRead { a, key, time } => {
+            Fields { a, key, numbers: Numbers { time, ..NUMBERS }, ..UNUSED }
+        }
+        Step::Acknowledged { a, count, position, term } => {
+            let numbers = Numbers { number: position, term, ..NUMBERS };
+            Fields { a, set_or_count: count, numbers, ..UNUSED }
+        }
+        Step::ClocksAgree => UNUSED,
+    }
+}
+
+/// The frame of a step, the only one it has.
+fn frame_of(step: &Step) -> [u8; FRAME] {
+    let fields = fields_of(step);
+    let mut frame = [0; FRAME];
+    frame[..5].copy_from_slice(&[step.kind(), fields.a, fields.b, fields.set_or_count, fields.key]);
+    put_numbers(&mut frame[5..], &fields.numbers);
+    frame
+}
+
+fn line_of(step: &Step) -> [u8; LINE] {
+    let mut line = [0; LINE];
+    write_bytes(&mut line, &frame_of(step));
+    line
+}
+
+/// Something that rises step by step up to a limit.
+struct Climb {
+    height: fn(&Server) -> u16,
+    raise: fn(&mut Run),
+}
+
+const TERMS: Climb = Climb { height: |server| server.term, raise: Run::raise_term };
+const WALL_CLOCKS: Climb =
+    Climb { height: |server| server.wall_clock, raise: Run::raise_wall_clock };
+
+/// A run under way: the model of what its lines have done, and the lines not yet handed over.
+struct Run {
+    prng: Prng,
+    cluster: Cluster,
+    refused: [[u32; CONDITIONS]; KINDS],
+    text: Vec<u8>,
+    written: usize,
+}
+
+/// Writing lines.
+impl Run {
+    fn new(seed: u64) -> Run {
+        Run {
+            prng: Prng(seed),
+            cluster: Cluster::ZERO,
+            refused: [[0; CONDITIONS]; KINDS],
+            text: Vec::new(),
+            written: 0,
+        }
+    }
+
+    fn hand_over(&mut self, output: &mut impl Write) -> io::Result<()> {
+        output.write_all(&self.text)?;
+        self.text.clear();
+        Ok(())
+    }
+
+    fn write_line(&mut self, line: &[u8]) {
+        self.text.extend_from_slice(line);
+        self.text.push(b'\n');
+        self.written += 1;
+    }
+
+    /// Writes a step whatever comes of it.
+    fn say(&mut self, said: Step) {
+        let _ = step(&mut self.cluster, &said);
+        self.write_line(&line_of(&said));
+    }
+
+    /// Writes a step if it is done or its refusal is worth a line; true where it was written.
+    fn offer(&mut self, offered: Step) -> bool {
+        let worth = match step(&mut self.cluster, &offered) {
+            Ok(_) => true,
+            Err(condition) => self.is_worth_a_line(offered.kind(), condition),
+        };
+        if worth {
+            self.write_line(&line_of(&offered));
+        }
+        worth
+    }
+
+    /// Rare refusals always are; of the others, those by the rules are met more often than numbers
+    /// out of range and need thinning more.
+    fn is_worth_a_line(&mut self, kind: u8, condition: Condition) -> bool {
+        let times = &mut self.refused[usize::from(kind)][condition as usize];
+        let one_in = if condition.number() <= 3 { 2 } else { 8 };
+        let worth = *times < 20 || self.prng.one_in(one_in);
+        *times += u32::from(worth);
+        worth
+    }
+
+    /// A bad line; the model follows what a reader makes of it, since upper case may change none.
+    fn junk(&mut self) {
+        let kind = self.prng.below(KINDS);
+        let frame = frame_of(&self.draw(kind));
+        let line = junk::bad_line(&mut self.prng, frame);
+        match read_line(&line) {
+            Ok(read) => self.say(read),
+            Err(_) => self.write_line(&line),
+        }
+    }
+}
+
+/// Drawing the numbers of a step: mostly usual ones, now and then odd ones.
+impl Run {
+    fn mostly<T: Copy>(&mut self, usual: T, odd: &[T]) -> T {
+        if self.prng.one_in(25) { self.prng.pick(odd) } else { usual }
+    }
+
+    /// The server count, or 2 before the first start, where any number will do.
+    fn count(&self) -> usize {
+        self.cluster.count.max(2)
+    }
+
+    fn everyone(&self) -> u8 {
+        (1 << self.cluster.count) - 1
+    }
+
+    /// The server at a number that may be out of range.
+    fn at(&self, a: u8) -> &Server {
+        &self.cluster.servers[usize::from(a) % SERVERS]
+    }
+
+    fn server(&mut self) -> u8 {
+        let count = self.count();
+        let usual = self.prng.below(count) as u8;
+        self.mostly(usual, &[count as u8, count as u8 + 1, 7, 8, 128, 255])
+    }
+
+    fn other_than(&mut self, a: u8) -> u8 {
+        let count = self.count();
+        let usual = (usize::from(a) + 1 + self.prng.below(count - 1)) % count;
+        self.mostly(usual as u8, &[a, a, count as u8, 7, 8, 255])
+    }
+
+    fn has_primary(&self) -> bool {
+        self.cluster.counted().iter().any(|server| server.role == Role::Primary)
+    }
+
+    /// Mostly a primary; any server where there is none.
+    fn primary(&mut self) -> u8 {
+        let (any, count) = (self.server(), self.count() as u8);
+        let primary = self.with_most(self.everyone(), |server| server.role == Role::Primary);
+        self.mostly(primary, &[any, any, count, 255])
+    }
+
+    /// Whom a should hear, pull from or roll back to: another primary, or just another.
+    fn source_for(&mut self, a: u8) -> u8 {
+        let primary = self.primary();
+        if primary != a && self.prng.one_in(2) { primary } else { self.other_than(a) }
+    }
+
+    /// The server among these with most of something; of equals, any.
+    fn with_most<K: Ord>(&mut self, among: u8, what: fn(&Server) -> K) -> u8 {
+        let count = self.count();
+        let first = self.prng.below(count);
+        let turned = (0..count).map(|i| ((first + i) % count) as u8);
+        let members = turned.filter(|a| among >> a & 1 == 1);
+        members.max_by_key(|&a| what(self.at(a))).unwrap_or(0)
+    }
+
+    /// Some majority that holds a, of those who would vote for it, if they are one.
+    fn voters(&mut self, a: u8, among: u8) -> u8 {
+        let candidate = *self.at(a);
+        let mut set = 0;
+        for (i, member) in self.cluster.counted().iter().enumerate() {
+            let votes = member.term <= candidate.term && !candidate.log.is_behind(&member.log);
+            set |= u8::from(votes) << i & among;
+        }
+        for i in 0..self.count() as u8 {
+            let fewer = set & !(1 << i);
+            let enough = self.cluster.is_majority(fewer.count_ones() as usize);
+            if i != a && enough && self.prng.one_in(2) {
+                set = fewer;
+            }
+        }
+        set
+    }
+
+    fn set(&mut self, a: u8) -> u8 {
+        let any = self.prng.below(256) as u8;
+        let everyone = self.everyone();
+        match self.prng.below(15) {
+            0 => any,
+            1 => any & everyone,
+            2 => everyone,
+            3 => everyone & !1u8.checked_shl(a.into()).unwrap_or(0),
+            _ => self.voters(a, everyone),
+        }
+    }
+
+    fn key(&mut self) -> u8 {
+        let usual = self.prng.below(4) as u8;
+        self.mostly(usual, &[4, 9, 14, 15, 15, 16, 17, 255])
+    }
+
+    fn value(&mut self) -> u16 {
+        let usual = 1 + self.prng.below(65_535) as u16;
+        self.mostly(usual, &[0, 0, 1, 255, 256, 65_535])
+    }
+
+    /// A time at or beside a boundary.
+    fn time_around(&mut self, time: Time) -> Time {
+        let Time { p, l } = time;
+        match self.prng.below(16) {
+            0 => Time { p, l: l.saturating_add(1) },
+            1 => Time { p, l: l.saturating_sub(1) },
+            2 => Time { p: p.saturating_add(1), l: 0 },
+            3 => Time { p: p.saturating_sub(1), l: 65_535 },
+            4 => Time::ZERO,
+            5 => Time { p: self.prng.below(65_536) as u16, l: self.prng.below(65_536) as u16 },
+            _ => time,
+        }
+    }
+
+    fn acknowledged(&mut self, a: u8) -> Step {
+        let length = self.at(a).log.length;
+        let usual = 1 + self.prng.below(length.max(1)) as u16;
+        let position = self.mostly(usual, &[0, length as u16 + 1, 32, 33, 256 + usual, 65_535]);
+        let term = self.at(a).log.entry(position.into()).map_or(1, |entry| entry.term);
+        let term = self.mostly(term, &[0, 0, term.wrapping_add(1), term ^ 256, 65_535]);
+        let count = self.count();
+        let usual = self.prng.below(count + 1) as u8;
+        let count = self.mostly(usual, &[count as u8 + 1, 8, 255]);
+        Step::Acknowledged { a, count, position, term }
+    }
+
+    fn write_by(&mut self, a: u8) -> Step {
+        Step::Writes { a, key: self.key(), value: self.value() }
+    }
+
+    /// A step of a kind. A start comes out refused: a session's own begins it.
+    fn draw(&mut self, kind: usize) -> Step {
+        let a = self.server();
+        match kind {
+            0 => Step::Start { servers: self.prng.pick(&[0, 1, 8, 9, 128, 255]) },
+            1 => Step::Elect { a, set: self.set(a) },
+            2 => Step::StepDown { a: self.primary() },
+            3 => Step::Hears { a, b: self.source_for(a) },
+            4 => Step::Pulls { a, b: self.source_for(a) },
+            5 => Step::RollsBack { a, b: self.source_for(a) },
+            6 => {
+                let a = self.primary();
+                self.write_by(a)
+            }
+            7 => Step::Advances { a: self.primary() },
+            8 => Step::WallClock { a },
+            9 => Step::Restarts { a },
+            10 => {
+                let time = self.time_around(self.at(a).applied_time());
+                Step::LocalRead { a, key: self.key(), time }
+            }
+            11 => {
+                let time = self.time_around(self.at(a).commit_time());
+                Step::MajorityRead { a, key: self.key(), time }
+            }
+            12 => self.acknowledged(a),
+            _ => Step::ClocksAgree,
+        }
+    }
+
+    /// A kind, as often as its weight says.
+    fn kind(&mut self) -> usize {
+        let mut left = self.prng.below(WEIGHTS.iter().sum());
+        let mut kind = 0;
+        while left >= WEIGHTS[kind] {
+            left -= WEIGHTS[kind];
+            kind += 1;
+        }
+        kind
+    }
+}
+
+/// What happens in a session.
+impl Run {
+    /// Every kind and some junk on the record that is all zero.
+    fn before_first_start(&mut self) {
+        for kind in 0..KINDS {
+            let drawn = self.draw(kind);
+            self.say(drawn);
+            self.junk();
+        }
+    }
+
+    fn begin(&mut self) {
+        let servers = 2 + self.prng.below(6) as u8;
+        self.say(Step::Start { servers });
+    }
+
+    /// Hands over each session as it ends, so that few lines are kept.
+    fn sessions_until(&mut self, lines: usize, output: &mut impl Write) -> io::Result<()> {
+        while self.written < lines {
+            let room = lines - self.written >= SPECIAL;
+            match self.prng.below(200) {
+                0..=2 if room => self.overwriting(),
+                3 if room => self.climb(&TERMS, PAST_A_BYTE),
+                4 if room => self.climb(&WALL_CLOCKS, PAST_A_BYTE),
+                _ => self.session(lines),
+            }
+            self.hand_over(output)?;
+        }
+        Ok(())
+    }
+
+    fn session(&mut self, last: usize) {
+        let end = last.min(self.written + 20 + self.prng.below(300));
+        self.begin();
+        while self.written < end {
+            match self.prng.below(1_000) {
+                0 => self.fill(),
+                1..=15 => self.split(),
+                16..=55 => self.replicate(),
+                _ => self.ordinary(),
+            }
+        }
+    }
+
+    /// One line, mostly a step that is allowed.
+    fn ordinary(&mut self) {
+        if self.prng.one_in(20) {
+            return self.junk();
+        }
+        let kind = self.kind();
+        if matches!(kind, 2 | 6 | 7) && !self.has_primary() && !self.prng.one_in(8) {
+            self.elect_of(self.everyone());
+            return;
+        }
+        for _ in 0..6 {
+            let drawn = self.draw(kind);
+            if self.offer(drawn) {
+                return;
+            }
+        }
+    }
+
+    /// Elects, of these, one who isn't behind the others, after it heard of the latest term; now
+    /// and then it has just restarted.
+    fn elect_of(&mut self, among: u8) -> u8 {
+        let a = self.with_most(among, |server| (server.log.last_term(), server.log.length));
+        if self.prng.one_in(16) {
+            self.offer(Step::Restarts { a });
+        }
+        let b = self.with_most(among, |server| server.term);
+        if self.at(b).term > self.at(a).term {
+            self.offer(Step::Hears { a, b });
+        }
+        let set = self.voters(a, among);
+        self.offer(Step::Elect { a, set });
+        a
+    }
+
+    /// A few writes, or rarely as many as the log takes.
+    fn write_some(&mut self, a: u8) {
+        let writes = if self.prng.one_in(100) { ENTRIES } else { self.prng.below(3) };
+        for _ in 0..writes {
+            let write = self.write_by(a);
+            self.offer(write);
+        }
+    }
+
+    /// About half of the servers come after the one they are given.
+    fn follow(&mut self, b: u8) {
+        for a in (0..self.count() as u8).filter(|&a| a != b) {
+            if self.prng.one_in(2) && !self.offer(Step::Pulls { a, b }) {
+                self.offer(Step::RollsBack { a, b });
+            }
+        }
+    }
+
+    /// Writes that others take over, commit and hear of.
+    fn replicate(&mut self) {
+        let a = self.primary();
+        self.write_some(a);
+        self.follow(a);
+        self.offer(Step::Advances { a });
+        for b in 0..self.count() as u8 {
+            let kind = self.prng.pick(&[3, 9, 11, 12]);
+            let drawn = if kind == 3 { Step::Hears { a: b, b: a } } else { self.draw(kind) };
+            self.offer(drawn);
+        }
+    }
+
+    /// An old primary keeps writing while another wins without it; then the two sides meet.
+    fn split(&mut self) {
+        let everyone = self.everyone();
+        let old = self.elect_of(everyone);
+        self.write_some(old);
+        self.follow(old);
+        let new = self.elect_of(everyone & !(1 << old));
+        self.write_some(old);
+        self.write_some(new);
+        self.follow(new);
+        self.offer(Step::Advances { a: new });
+        self.offer(Step::Advances { a: old });
+        self.write_some(old);
+        self.offer(Step::Hears { a: new, b: old });
+        self.offer(Step::Hears { a: old, b: new });
+        self.offer(Step::RollsBack { a: old, b: new });
+        self.write_some(new);
+        self.follow(new);
+        self.offer(Step::Advances { a: new });
+    }
+
+    /// A log of 31 and of 32 at a write.
+    fn fill(&mut self) {
+        let a = self.elect_of(self.everyone());
+        for _ in self.at(a).log.length..=ENTRIES {
+            let write = self.write_by(a);
+            self.say(write);
+        }
+        self.follow(a);
+        self.offer(Step::Advances { a });
+    }
+
+    /// A session of rounds in which a log is filled and rolled back again, so that l grows far
+    /// beyond what one log holds.
+    fn overwriting(&mut self) {
+        self.begin();
+        for kept in 0..ENTRIES {
+            self.overwrite(kept);
+        }
+    }
+
+    /// Fills a log that is then rolled back to one with a single entry more than are kept.
+    fn overwrite(&mut self, kept: usize) {
+        let everyone = self.everyone();
+        let old = self.elect_of(everyone);
+        let latest = self.with_most(everyone, |server| server.cluster_time);
+        self.offer(Step::Hears { a: old, b: latest });
+        let new = self.elect_of(everyone & !(1 << old));
+        for a in std::iter::once(new).chain((kept..ENTRIES).map(|_| old)) {
+            let write = self.write_by(a);
+            self.offer(write);
+        }
+        self.offer(Step::Hears { a: old, b: new });
+        self.offer(Step::RollsBack { a: old, b: new });
+        self.follow(new);
+    }
+
+    fn raise_term(&mut self) {
+        self.elect_of(self.everyone());
+    }
+
+    fn raise_wall_clock(&mut self) {
+        let a = self.with_most(self.everyone(), |server| server.wall_clock);
+        self.offer(Step::WallClock { a });
+    }
+
+    /// A session up to a limit; few other steps are on the way, so that logs aren't full there.
+    fn climb(&mut self, climb: &Climb, limit: u16) {
+        self.begin();
+        let top = |run: &Run| run.cluster.counted().iter().map(climb.height).max().unwrap_or(limit);
+        while top(self) < limit {
+            let one_in = if top(self) < limit - NEAR { 512 } else { 3 };
+            if self.prng.one_in(one_in) { self.ordinary() } else { (climb.raise)(self) }
+        }
+        for _ in 0..AFTER_CLIMB {
+            self.ordinary();
+        }
+    }
+
+    /// In half of all runs one more line, good or bad, without a line feed.
+    fn last_line(&mut self) {
+        if self.prng.one_in(2) {
+            if self.prng.one_in(2) {
+                self.say(Step::ClocksAgree)
+            } else {
+                self.junk()
+            }
+            self.text.pop();
+        }
+    }
+}
+
+#[cfg(test)]
+mod tests {
+    use super::*;
+
+    #[test]
+    fn every_drawn_step_is_read_back() {
+        let mut run = Run::new(1);
+        run.begin();
+        for kind in (0..KINDS).cycle().take(20_000) {
+            let drawn = run.draw(kind);
+            assert_eq!(usize::from(drawn.kind()), kind);
+            assert_eq!(read_line(&line_of(&drawn)), Ok(drawn));
+            run.say(drawn);
+        }
+    }
+}

@@ -1,0 +1,158 @@
+//! The tally of a run: how often each kind was done and how often each condition refused, and
+//! whether everything that lines can reach was reached.
+
+use crate::model::{Answer, CONDITIONS, Condition, Condition::*, KINDS, Step};
+use std::io::{self, Write};
+
+/// One row a kind, and a last one for lines that are no frame.
+const ROWS: usize = KINDS + 1;
+const NO_FRAME: usize = KINDS;
+
+/// For each kind, the conditions of its refusals in the order in which they are tested.
+const LISTS: [(&str, &[Condition]); ROWS] = [
+    ("start", &[StartBelow2, StartAbove7]),
+    (
+        "elect",
+        &[
+            NotWellFormed,
+            ServerOutside,
+            MemberOutside,
+            NotAMajority,
+            OutsideItsSet,
+            MemberTermAbove,
+            BehindAMember,
+            TermAtLimit,
+        ],
+    ),
+    ("step down", &[NotWellFormed, ServerOutside, NotPrimary]),
+    ("hears", &[NotWellFormed, ServerOutside, OtherServerOutside, SameServer]),
+    (
+        "pulls",
+        &[
+            NotWellFormed,
+            ServerOutside,
+            OtherServerOutside,
+            SameServer,
+            NotSecondary,
+            NotShorter,
+            LastEntryDiffers,
+        ],
+    ),
+    (
+        "rolls back",
+        &[
+            NotWellFormed,
+            ServerOutside,
+            OtherServerOutside,
+            SameServer,
+            NotSecondary,
+            LogEmpty,
+            LastTermNotBelow,
+            ABeginning,
+            CommonBelowCommitPoint,
+        ],
+    ),
+    (
+        "writes",
+        &[NotWellFormed, ServerOutside, KeyAbove15, ValueZero, NotPrimary, LogFull, TickAtLimit],
+    ),
+    ("advances", &[NotWellFormed, ServerOutside, NotPrimary, NothingPasses]),
+    ("wall clock", &[NotWellFormed, ServerOutside, WallClockAtLimit]),
+    ("restarts", &[NotWellFormed, ServerOutside]),
+    ("local read", &[NotWellFormed, ServerOutside, KeyAbove15, AppliedTimeBefore]),
+    ("majority read", &[NotWellFormed, ServerOutside, KeyAbove15, CommitTimeBefore]),
+    (
+        "acknowledged",
+        &[
+            NotWellFormed,
+            ServerOutside,
+            CountAbove,
+            PositionZero,
+            PositionAbove32,
+            TermZero,
+            NoEntry,
+            OtherTerm,
+            CommitPointBelow,
+            FewerThanCount,
+        ],
+    ),
+    ("clocks agree", &[NotWellFormed]),
+    ("no frame", &[WrongLength, WrongCharacter, UnknownKind, UnusedByte]),
+];
+
+/// What no lines reach from a fresh start, and above each the reason.
+const UNREACHABLE: [(usize, Condition); 2] = [
+    // Demand 3: committed entries stay with a majority and with every log of a later last term.
+    (5, CommonBelowCommitPoint),
+    // A write raises l by one at most and makes a log never held before. A log only gives way to
+    // one that isn't behind it, and elections need majorities, so that seven servers can make no
+    // more than C(36, 4) - 1 = 58,904 logs of up to 32 entries (counted by hand, not proved).
+    (6, TickAtLimit),
+];
+
+pub struct Tally {
+    done: [u64; ROWS],
+    refused: [[u64; CONDITIONS]; ROWS],
+}
+
+impl Tally {
+    pub const NONE: Tally = Tally { done: [0; ROWS], refused: [[0; CONDITIONS]; ROWS] };
+
+    /// Counts the answer to a line, whose step is none where it is no frame.
+    pub fn count(&mut self, step: Option<Step>, answer: Answer) {
+        let row = step.map_or(NO_FRAME, |step| step.kind().into());
+        match answer {
+            Ok(_) => self.done[row] += 1,
+            Err(condition) => self.refused[row][condition as usize] += 1,
+        }
+    }
+
+    /// Writes the tally, then what is amiss; true where nothing is.
+    pub fn write(&self, output: &mut impl Write) -> io::Result<bool> {
+        for (row, (kind, list)) in LISTS.iter().enumerate() {
+            writeln!(output, "{row:2} {kind}: {} done", self.done[row])?;
+            for &condition in *list {
+                let times = self.refused[row][condition as usize];
+                writeln!(output, "     {:2} {condition:?} {times}", condition.number())?;
+            }
+        }
+        self.write_share(output)?;
+        let amiss = self.amiss();
+        for line in &amiss {
+            writeln!(output, "{line}")?;
+        }
+        Ok(amiss.is_empty())
+    }
+
+    fn write_share(&self, output: &mut impl Write) -> io::Result<()> {
+        let bad: u64 = self.refused[NO_FRAME].iter().sum();
+        let refused = self.refused.iter().flatten().sum::<u64>() - bad;
+        let done: u64 = self.done.iter().sum();
+        let share = 100 * done / (done + refused).max(1);
+        writeln!(output, "{} step lines, {share} of 100 done; {bad} bad lines", done + refused)
+    }
+
+    /// Everything that should have occurred and didn't, or the other way round.
+    fn amiss(&self) -> Vec<String> {
+        let mut amiss = Vec::new();
+        for (row, (kind, list)) in LISTS.iter().enumerate() {
+            if row != NO_FRAME && self.done[row] == 0 {
+                amiss.push(format!("never: {kind} done"));
+            }
+            for &condition in *list {
+                let reachable = !UNREACHABLE.contains(&(row, condition));
+                let occurred = self.refused[row][condition as usize] > 0;
+                if reachable && !occurred {
+                    amiss.push(format!("never: {kind} refused by {condition:?}"));
+                } else if occurred && !reachable {
+                    amiss.push(format!("held unreachable: {kind} refused by {condition:?}"));
+                }
+            }
+            let listed: u64 = list.iter().map(|&c| self.refused[row][c as usize]).sum();
+            if listed != self.refused[row].iter().sum() {
+                amiss.push(format!("refused by a condition outside its list: {kind}"));
+            }
+        }
+        amiss
+    }
+}
