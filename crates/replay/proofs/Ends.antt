@@ -35,8 +35,7 @@ pub ends-answered : (s d : Session) (out out′ : List ℕ) (o : Outcome) → is
     → o ≡ answerTo (s .cluster) (lineHeld (s .reader)) → d ≡ begun (o .cluster) → out′ ≡ placed out 0 (lineOf (o .answer))
     → Ends s (record { session = d; wrote = answerLine; ended = true }) out out′
 unfolding finishOf finishOut ending ended
-ends-answered s d out out′ o e h p q r =
-    (
-      rw (e, le-ltb (length out) answerLine h) (λ i. record { session = (q ∙ ap (λ (x : Outcome). begun (x .cluster)) p) i; wrote = answerLine; ended = true }),
-      rw (le-ltb (length out) answerLine h, e) (r ∙ ap (λ (x : Outcome). placed out 0 (lineOf (x .answer))) p),
-    )
+ends-answered s d out out′ o e h p q r = (
+  rw (e, le-ltb (length out) answerLine h) (λ i. record { session = (q ∙ ap (λ (x : Outcome). begun (x .cluster)) p) i; wrote = answerLine; ended = true }),
+  rw (le-ltb (length out) answerLine h, e) (r ∙ ap (λ (x : Outcome). placed out 0 (lineOf (x .answer))) p),
+)

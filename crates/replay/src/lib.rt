@@ -103,7 +103,11 @@ pub fn step_held(r: Reader) -> ReadStep
 fn plan_alone(size: usize, a: usize, s: Step) -> Plan
     ensures { λ r. ⌜ r ≡ alone size a s ⌝ }
 {
-    if a < size { Plan::Server(a, a, s) } else { Plan::Refuse(Refusal::OutOfRange) }
+    if a < size {
+        Plan::Server(a, a, s)
+    } else {
+        Plan::Refuse(Refusal::OutOfRange)
+    }
 }
 
 fn plan_apart(size: usize, a: usize, b: usize, s: Step) -> Plan
@@ -208,7 +212,11 @@ pub fn feed(s: Session, text: &[u8], out: &mut [u8]) -> Fed
         }
         let read = step_held(r);
         r = fresh_reader();
-        let p = plan_for(cluster::server_count(c.count), cluster::well_formed(c), read);
+        let p = plan_for(
+            cluster::server_count(c.count),
+            cluster::well_formed(c),
+            read,
+        );
         let mut answer = Answer::Done;
         match p {
             Plan::Refuse(x) => {

@@ -1,6 +1,6 @@
 // Reads step lines from standard input to its end and writes an answer line for each: thin over the proved library `replay`.
-use libc::STDIN_FILENO;
 use libc::STDERR_FILENO;
+use libc::STDIN_FILENO;
 use libc::STDOUT_FILENO;
 use replay::Session;
 
@@ -93,7 +93,10 @@ fn drain(s: Session, out: &mut [u8]) -> Drained {
 }
 
 fn cannot_write() {
-    io::write_all(STDERR_FILENO, b"replay: standard output can't be written, so the answers break off here\n");
+    io::write_all(
+        STDERR_FILENO,
+        b"replay: standard output can't be written, so the answers break off here\n",
+    );
 }
 
 fn main() {
@@ -105,7 +108,10 @@ fn main() {
     match end {
         End::CannotWrite => cannot_write(),
         End::CannotRead => {
-            io::write_all(STDERR_FILENO, b"replay: standard input can't be read any further; the lines before are answered\n");
+            io::write_all(
+                STDERR_FILENO,
+                b"replay: standard input can't be read any further; the lines before are answered\n",
+            );
         }
         End::Input => {
             let f = replay::finish(d, &mut out);

@@ -1,3 +1,4 @@
+-- `replay::feed` meets its contract. Assumes nothing.
 use Rattle.replay.specs.declared.Plan.{Plan}
 use Rattle.steps.specs.declared.Stepped.{Stepped}
 use Rattle.replay.specs.declared.Plan.the-variants.{Refuse, Server, Record}
@@ -8,30 +9,17 @@ use Rattle.replay.specs.Plans.{planOf, carriedOut}
 use Rattle.replay.specs.Pieces.{lineHeld}
 use Rattle.replay.specs.Texts.{answerTo}
 use Rattle.frames.specs.Steps.{readStep}
-use Rattle.steps.specs.declared.Answer.the-variants.{Refused}
 use Rattle.steps.specs.declared.Outcome.{Outcome}
-use Rattle.cluster.specs.declared.Cluster.{Cluster}
 use Rattle.cluster.specs.WellFormed.{wellFormed}
 use Rattle.cluster.specs.Servers.{serverCount, withServer}
-use lib.ListN.{length, getD}
+use lib.ListN.{length}
 use native.Mathlib.Omega.{arith}
-use Prim.Native.Nat.{ℕ, _≤_, _<_, _+_, _-_}
+use Prim.Native.Nat.{ℕ, _-_}
 use mathlib.Core.Logic.{⊎-elim}
-use mathlib.Core.Path.{_≡_, refl, sym, ap, _∙_}
+use mathlib.Core.Path.{_≡_, sym, ap, _∙_}
 use borrow.Author.Needs.{needs}
 use Rattle.replay.proofs.feed.Statement.{statement}
 use Rattle.replay.proofs.feed.Tie as tie
-use Rattle.replay.proofs.feed.Reads as reads
-use Rattle.replay.proofs.feed.Lts as lts
-use Rattle.cluster.proofs.server_count.Reads as server-count-reads
-use Rattle.cluster.proofs.well_formed.Reads as well-formed-reads
-use Rattle.replay.proofs.fresh_reader.Reads as fresh-reader-reads
-use Rattle.replay.proofs.plan_for.Reads as plan-for-reads
-use Rattle.replay.proofs.pushed.Reads as pushed-reads
-use Rattle.replay.proofs.put.Reads as put-reads
-use Rattle.replay.proofs.step_held.Reads as step-held-reads
-use Rattle.rules.proofs.core.Reads as core-reads
-use Rattle.rules.proofs.one.Reads as one-reads
 
 abbrev Inv-loop : tie.InvT-loop
 Inv-loop text out₀ c₀ r₀ w₀ i₀ out c r w i = Along (record { cluster = c₀; reader = r₀ }) text out₀ out (record { cluster = c; reader = r }) w i
@@ -39,7 +27,6 @@ Inv-loop text out₀ c₀ r₀ w₀ i₀ out c r w i = Along (record { cluster =
 abbrev μ-loop : tie.MeasureT-loop
 μ-loop text out₀ c₀ r₀ w₀ i₀ out c r w i = length text - i
 
--- HELPERS
 -- the plan is that of the line that was read
 planned : (c : tie.After-plan-for Inv-loop μ-loop) → c .plan-for .result ≡ planOf (serverCount (c .before .before .before .before .before .before .before .before .before .loop .c)) (wellFormed (c .before .before .before .before .before .before .before .before .before .loop .c)) (readStep (lineHeld (c .before .before .before .before .before .before .before .before .before .loop .r)))
 planned c =
@@ -72,132 +59,100 @@ outcome c =
     (λ w. settled (c .before) (Record (w .1 .given .0 .0)) _ (w .1 .given .1)
     (λ i. record { cluster = (w .5 ∙ ap (λ (r : Outcome). r .cluster) (w .3 .ensures)) i; answer = (w .6 ∙ ap (λ (r : Outcome). r .answer) (w .3 .ensures)) i })) v)
     (c .match .came)
--- END
 
--- src/lib.rt:191:5
 loop-holds : tie.Need-loop-holds Inv-loop μ-loop
 loop-holds c = start _ _ _
 
--- src/lib.rt:192:12
 sub-if1 : tie.Need-sub-if1 Inv-loop μ-loop
 sub-if1 c = search needs
 
--- src/lib.rt:193:13
 same-length : tie.Need-same-length Inv-loop μ-loop
 same-length c = search needs
 
--- src/lib.rt:193:13
 returns : tie.Need-returns Inv-loop μ-loop
 returns c = stopped (c .before .before .loop .inv) (omega arith)
 
--- src/lib.rt:202:17
 shared-slice-read-b : tie.Need-shared-slice-read-b Inv-loop μ-loop
 shared-slice-read-b c = search needs
 
--- src/lib.rt:203:9
 add-i : tie.Need-add-i Inv-loop μ-loop
 add-i c = search needs
 
--- src/lib.rt:205:13
 pushed-requires : tie.Need-pushed-requires Inv-loop μ-loop
 pushed-requires c κs = search needs
 
--- src/lib.rt:191:5
 loop-less : tie.Need-loop-less Inv-loop μ-loop
 loop-less c = search needs
 
--- src/lib.rt:191:5
 loop-again : tie.Need-loop-again Inv-loop μ-loop
 loop-again c = by-byte _ (c .before .before .before .before .before .loop .inv) (omega arith) (omega arith) (c .before .if2 .taken) (c .pushed .ensures)
 
--- src/lib.rt:208:13
 step-held-requires : tie.Need-step-held-requires Inv-loop μ-loop
 step-held-requires c κs = search needs
 
--- src/lib.rt:209:9
 fresh-reader-requires : tie.Need-fresh-reader-requires Inv-loop μ-loop
 fresh-reader-requires c κs = search needs
 
--- src/lib.rt:210:26
 server-count-requires : tie.Need-server-count-requires Inv-loop μ-loop
 server-count-requires c κs = search needs
 
--- src/lib.rt:210:58
 well-formed-requires : tie.Need-well-formed-requires Inv-loop μ-loop
 well-formed-requires c κs = search needs
 
--- src/lib.rt:210:13
 plan-for-requires : tie.Need-plan-for-requires Inv-loop μ-loop
 plan-for-requires c κs = search needs
 
--- src/lib.rt:213:26
 enum-known-p : tie.Need-enum-known-p Inv-loop μ-loop
 enum-known-p c = search needs
 
--- src/lib.rt:216:26
 enum-known-p-2 : tie.Need-enum-known-p-2 Inv-loop μ-loop
 enum-known-p-2 c = search needs
 
--- src/lib.rt:217:25
 mul-x : tie.Need-mul-x Inv-loop μ-loop
 mul-x c = let h = inside c .first in search needs
 
--- src/lib.rt:217:25
 element-copy-out-x : tie.Need-element-copy-out-x Inv-loop μ-loop
 element-copy-out-x c = inside c .first
 
--- src/lib.rt:218:25
 mul-y : tie.Need-mul-y Inv-loop μ-loop
 mul-y c = let h = inside (c .before) .second in search needs
 
--- src/lib.rt:218:25
 element-copy-out-y : tie.Need-element-copy-out-y Inv-loop μ-loop
 element-copy-out-y c = inside (c .before) .second
 
--- src/lib.rt:219:21
 one-requires : tie.Need-one-requires Inv-loop μ-loop
 one-requires c κs = search needs
 
--- src/lib.rt:221:17
 mul-d : tie.Need-mul-d Inv-loop μ-loop
 mul-d c = let h = inside (c .before .before .before .before) .first in search needs
 
--- src/lib.rt:221:17
 element-set-from-d : tie.Need-element-set-from-d Inv-loop μ-loop
 element-set-from-d c = inside (c .before .before .before .before) .first
 
--- src/lib.rt:225:26
 enum-known-p-3 : tie.Need-enum-known-p-3 Inv-loop μ-loop
 enum-known-p-3 c = search needs
 
--- src/lib.rt:226:21
 core-requires : tie.Need-core-requires Inv-loop μ-loop
 core-requires c κs = search needs
 
--- src/lib.rt:233:9
 put-requires : tie.Need-put-requires Inv-loop μ-loop
 put-requires c κs = search needs
 
--- src/lib.rt:234:9
 add-w : tie.Need-add-w Inv-loop μ-loop
 add-w c = search needs
 
--- src/lib.rt:191:5
 loop-less-2 : tie.Need-loop-less-2 Inv-loop μ-loop
 loop-less-2 c = search needs
 
--- src/lib.rt:191:5
 loop-again-2 : tie.Need-loop-again-2 Inv-loop μ-loop
-loop-again-2 c = 
+loop-again-2 c =
     let m = c .before .before .before .before in
     by-line _ (record { cluster = m .match .c; answer = m .match .answer }) _ (c .before .before .before .before .before .before .before .before .before .before .before .before .before .before .loop .inv) (omega arith) (omega arith) (c .before .before .before .before .before .before .before .before .before .before .if2 .left) (outcome m)
     (λ i. record { cluster = m .match .c; reader = c .before .before .before .before .before .before .before .before .fresh-reader .ensures i }) (c .before .before .put .ensures)
 
--- src/lib.rt:183:1
 same-length-2 : tie.Need-same-length-2 Inv-loop μ-loop
 same-length-2 c = search needs
 
--- src/lib.rt:183:1
 returns-2 : tie.Need-returns-2 Inv-loop μ-loop
 returns-2 c = ended (c .before .loop .inv) (omega arith)
 

@@ -1,25 +1,20 @@
+-- `replay::pushed` meets its contract. Assumes nothing.
 use Rattle.replay.specs.Pieces.{kept, pushOf}
 use borrow.Author.Tests.{lt-ltb, le-ltb}
 use borrow.Author.Needs.{needs}
 use Rattle.replay.proofs.pushed.Statement.{statement}
 use Rattle.replay.proofs.pushed.Tie as tie
-use Rattle.replay.proofs.pushed.Reads as reads
-use Rattle.replay.proofs.pushed.Lts as lts
 
--- src/lib.rt:81:9
 element-write-q : tie.Need-element-write-q
 element-write-q c = search needs
 
--- src/lib.rt:82:18
 add-q : tie.Need-add-q
 add-q c = search needs
 
--- src/lib.rt:83:9
 returns : tie.Need-returns
 unfolding pushOf
 returns c = simp (lt-ltb (c .before .args .r .fill) kept (c .if1 .taken))
 
--- src/lib.rt:75:1
 returns-2 : tie.Need-returns-2
 unfolding pushOf
 returns-2 c = simp (le-ltb (c .before .args .r .fill) kept (c .if1 .left))

@@ -1,15 +1,16 @@
-use mathlib.Core.Path.{_≡_, refl, sym, ap, _∙_}
+-- `replay::put` meets its contract. Assumes nothing.
+use mathlib.Core.Path.{_≡_, sym, ap, _∙_}
 use mathlib.Core.List.{List, [], _∷_, _++_, append-assoc}
-use Prim.Native.Nat.{ℕ, suc, _+_, _<_, _≤_}
+use Prim.Native.Nat.{ℕ, suc, _+_, _≤_}
 use native.Mathlib.Omega.{arith}
-use lib.ListN.{length, getD, set, take, drop, length-set, length-append}
+use lib.ListN.{length, getD, set, take, drop, length-append}
 use lib.Seq.{drop-cons, set-at, append-snoc, length-take-le}
 use Rattle.steps.specs.declared.Answer.{Answer}
 use Rattle.frames.specs.Answers.{writeAnswer}
 use Rattle.frames.proofs.Lengths.{answer-line-length}
 use Rattle.steps.specs.Answers.{tellingOf}
 use Rattle.replay.specs.Pieces.{placed}
-use Rattle.replay.specs.Texts.{lineFeed, lineOf}
+use Rattle.replay.specs.Texts.{lineOf}
 use borrow.Author.Needs.{needs}
 use Rattle.replay.proofs.put.Statement.{statement}
 use Rattle.replay.proofs.put.Tie as tie

@@ -1,27 +1,21 @@
+-- `replay::step_held` meets its contract. Assumes nothing.
 use Rattle.base.proofs.Facts.{mapped-long}
 use Rattle.frames.specs.Steps.{readStep}
 use Rattle.replay.proofs.Held.{held-over, held-short, held-frame}
-use mathlib.Core.Path.{_≡_, sym, ap, _∙_}
+use mathlib.Core.Path.{ap, _∙_}
 use borrow.Author.Needs.{needs}
 use Rattle.replay.proofs.step_held.Statement.{statement}
 use Rattle.replay.proofs.step_held.Tie as tie
-use Rattle.replay.proofs.step_held.Reads as reads
-use Rattle.replay.proofs.step_held.Lts as lts
-use Rattle.frames.proofs.read_frame.Reads as read-frame-reads
 
--- src/lib.rt:94:9
 returns : tie.Need-returns
 returns c = held-over (c .before .args .r) (c .if1 .taken)
 
--- src/lib.rt:97:9
 returns-2 : tie.Need-returns-2
 returns-2 c = held-short (c .before .before .before .args .r) (c .before .before .if1 .left) (c .if2 .taken)
 
--- src/lib.rt:100:5
 read-frame-requires : tie.Need-read-frame-requires
 read-frame-requires c κs = search needs
 
--- src/lib.rt:90:1
 returns-3 : tie.Need-returns-3
 returns-3 c = c .read-frame .ensures ∙ ap readStep (held-frame (c .before .before .before .before .before .args .r) (search (needs, mapped-long)) (c .before .before .before .before .if1 .left) (c .before .before .if2 .left))
 

@@ -1,17 +1,14 @@
+-- `replay_main::pour` meets its contract. Assumes nothing.
 use Rattle.replay.proofs.Whole.{within}
 use lib.Seq.{length-take-le}
 use lib.ListN.{length, take, drop, length-drop}
 use native.Mathlib.Omega.{arith}
 use Prim.Native.Nat.{ℕ, _≤_, _+_, _-_}
 use mathlib.Core.List.{List}
-use mathlib.Core.Path.{_≡_, sym}
+use mathlib.Core.Path.{_≡_}
 use borrow.Author.Needs.{needs}
 use Rattle.replay_main.proofs.pour.Statement.{statement}
 use Rattle.replay_main.proofs.pour.Tie as tie
-use Rattle.replay_main.proofs.pour.Reads as reads
-use Rattle.replay_main.proofs.pour.Lts as lts
-use Rattle.replay.proofs.feed.Reads as feed-reads
-use Rattle.replay_main.proofs.write_first.Reads as write-first-reads
 
 abbrev Inv-loop : tie.InvT-loop
 Inv-loop piece out₀ d₀ at₀ out d at = (at ≤ length piece) × (length out ≡ length out₀)
@@ -19,72 +16,55 @@ Inv-loop piece out₀ d₀ at₀ out d at = (at ≤ length piece) × (length out
 abbrev μ-loop : tie.MeasureT-loop
 μ-loop piece out₀ d₀ at₀ out d at = length piece - at
 
--- HELPERS
 -- what was taken of a part stays within the piece
 room : (xs : List ℕ) (at n : ℕ) → at ≤ length xs → n ≤ length (take (length xs - at) (drop at xs)) → at + n ≤ length xs
 room xs at n h l = omega (arith, length-take-le (length xs - at) (drop at xs) (omega (arith, length-drop at xs)))
 
 taken : (c : tie.Else2 Inv-loop μ-loop) → c .before .before .before .before .before .before .before .before .before .before .before .loop .at + c .before .before .before .before .before .before .before .feed .result .taken ≤ length (c .before .before .before .before .before .before .before .before .before .before .before .before .before .before .args .piece .now)
 taken c = room (c .before .before .before .before .before .before .before .before .before .before .before .before .before .before .args .piece .now) (c .before .before .before .before .before .before .before .before .before .before .before .loop .at) _ (omega arith) (within _ _ _ _ (c .before .before .before .before .before .before .before .feed .ensures .0) .taken)
--- END
 
--- src/main.rt:31:5
 loop-holds : tie.Need-loop-holds Inv-loop μ-loop
 loop-holds c = search needs
 
--- src/main.rt:32:33
 sub-feed : tie.Need-sub-feed Inv-loop μ-loop
 sub-feed c = search needs
 
--- src/main.rt:32:33
 part-feed-start : tie.Need-part-feed-start Inv-loop μ-loop
 part-feed-start c = search needs
 
--- src/main.rt:32:33
 part-feed-end : tie.Need-part-feed-end Inv-loop μ-loop
 part-feed-end c = search needs
 
--- src/main.rt:32:13
 feed-requires : tie.Need-feed-requires Inv-loop μ-loop
 feed-requires c κs = search needs
 
--- src/main.rt:37:13
 write-first-requires : tie.Need-write-first-requires Inv-loop μ-loop
 write-first-requires c κs = search needs
 
--- src/main.rt:38:13
 same-length : tie.Need-same-length Inv-loop μ-loop
 same-length c = search needs
 
--- src/main.rt:38:13
 returns : tie.Need-returns Inv-loop μ-loop
 returns c = search needs
 
--- src/main.rt:44:13
 same-length-2 : tie.Need-same-length-2 Inv-loop μ-loop
 same-length-2 c = search needs
 
--- src/main.rt:44:13
 returns-2 : tie.Need-returns-2 Inv-loop μ-loop
 returns-2 c = search needs
 
--- src/main.rt:49:9
 add-at : tie.Need-add-at Inv-loop μ-loop
 add-at c = omega (arith, taken c)
 
--- src/main.rt:31:5
 loop-less : tie.Need-loop-less Inv-loop μ-loop
 loop-less c = omega (arith, taken c, c .if2 .left)
 
--- src/main.rt:31:5
 loop-again : tie.Need-loop-again Inv-loop μ-loop
 loop-again c = (taken c, omega (arith, c .before .before .before .before .before .before .before, c .before .before .before .before .before .before .before .before .before .before .before))
 
--- src/main.rt:28:1
 same-length-3 : tie.Need-same-length-3 Inv-loop μ-loop
 same-length-3 c = search needs
 
--- src/main.rt:28:1
 returns-3 : tie.Need-returns-3 Inv-loop μ-loop
 returns-3 c = search needs
 
