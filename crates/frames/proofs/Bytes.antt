@@ -1,9 +1,9 @@
 -- Laws of numbers of two bytes, and of a list of bytes by its elements. Assumes nothing.
 use mathlib.Core.Path.{_≡_, refl, ap}
 use mathlib.Core.List.{List, [], _∷_}
-use Prim.Native.Nat.{ℕ, zero, suc, _+_, _*_, _/_, _%_, _<_, _≤_}
+use Prim.Native.Nat.{ℕ, zero, suc, _<_, _≤_}
 use native.Mathlib.Omega.{arith}
-use lib.ListN.{length, getD}
+use lib.ListN.{length}
 use Rattle.clock.specs.Times.{limit}
 use Rattle.steps.specs.Ranges.{byte}
 use Rattle.frames.specs.Lines.{highOf, lowOf, wordOf, byteAt}

@@ -7,3 +7,5 @@ pub mod Unknown
 pub mod Lengths
 pub mod Bytes
 pub mod StepFrames
+pub mod Steps
+pub mod Answers

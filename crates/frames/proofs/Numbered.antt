@@ -1,17 +1,26 @@
 -- The refusal of each number from 1 to 10, and of no other. Assumes nothing.
-use mathlib.Core.Path.{_≡_, refl}
+use mathlib.Core.Path.{_≡_, refl, sym}
+use mathlib.Core.Bool.{Bool, true, false, cond}
 use mathlib.Core.List.{List, [], _∷_}
 use Prim.Native.Nat.{ℕ, suc, _≤_, _<_}
 use native.Mathlib.Omega.{arith}
-use borrow.Author.Tests.{ne-eqb}
+use borrow.Author.Tests.{ne-eqb, eqb-true}
+use lib.Dec.{eqb}
 use lib.ListN.{length, getD}
 use Rattle.steps.specs.declared.Refusal.{Refusal}
 use Rattle.steps.specs.declared.Refusal.the-variants.{NotAFrame, IllFormed, OutOfRange, WrongRole, ConditionUnmet, LogFull, AtLimit, NotYet, BelowCommitPoint, NoSuchEntry}
+use Rattle.steps.specs.declared.Telling.{Telling}
 use Rattle.steps.specs.declared.Telling.the-variants.{Refusing}
 use Rattle.steps.specs.Refusals.{refusalNumber}
 use Rattle.frames.specs.declared.ReadAnswer.the-variants as R
 use Rattle.frames.specs.Answers.{refusals, numbered, refusalOf}
 use Rattle.frames.proofs.Cases.{_▸_, case-at}
+
+pub is-telling : {s t : Telling} → R.Telling s ≡ R.Telling t → s ≡ t
+is-telling e = cc
+
+pub no-telling : {t : Telling} → R.NoFrame ≡ R.Telling t → ⊥
+no-telling e = let z : _≡_ {A = ℕ} 0 1 = cc in omega arith
 
 -- a refusal's number is from 1 to as many as there are
 pub number-low : (r : Refusal) → (1 ≤ refusalNumber r) × (refusalNumber r ≤ length refusals)
@@ -53,3 +62,16 @@ none-numbered n (r ∷ rs) h = rw (ne-eqb n (refusalNumber r) (λ e. omega (arit
 pub no-refusal : (n : ℕ) → length refusals < n → refusalOf n ≡ R.NoFrame
 unfolding refusalOf
 no-refusal n h = none-numbered n refusals h
+
+-- t is the refusal that has the number n
+abbrev pub Found : ℕ → Telling → Type 0
+Found n t = (r : Refusal) × ((t ≡ Refusing r) × (n ≡ refusalNumber r))
+
+pub found : (n : ℕ) (rs : List Refusal) (t : Telling) → numbered n rs ≡ R.Telling t → Found n t
+found n [] t e = absurd (no-telling e)
+found n (r ∷ rs) t e = go (eqb n (refusalNumber r)) refl e (found n rs t)
+  where
+    go : (b : Bool) → eqb n (refusalNumber r) ≡ b → cond b (R.Telling (Refusing r)) (numbered n rs) ≡ R.Telling t → (numbered n rs ≡ R.Telling t → Found n t)
+        → Found n t
+    go true q e later = (r, (sym (is-telling e), eqb-true _ _ q))
+    go false q e later = later e

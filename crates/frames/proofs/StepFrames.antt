@@ -1,13 +1,11 @@
 -- The bytes of a step frame and its fields are told by each other. Assumes nothing.
-use mathlib.Core.Path.{_≡_, refl, sym, ap, _∙_}
-use mathlib.Core.Bool.{Bool, true, false, cond, not, _||_}
+use mathlib.Core.Path.{_≡_, refl, sym, _∙_}
+use mathlib.Core.Bool.{Bool, true, false, cond}
 use mathlib.Core.List.{List}
-use mathlib.Core.Logic.{⊎-elim}
 use Prim.Native.Nat.{ℕ, _<_, _≤_}
 use borrow.Author.Tests.{eqb-true}
 use lib.Dec.{eqb}
 use lib.ListN.{length}
-use Rattle.base.proofs.Bools.{or-cases, not-both}
 use Rattle.base.proofs.Every.{every-at}
 use Rattle.clock.specs.Times.{limit}
 use Rattle.steps.specs.Ranges.{byte}
@@ -83,8 +81,8 @@ unfolding isClean
 clean-masked kind bs e n =
     listed-same stepBytes _ (byteAt bs) (λ i l. one i (every-at (λ k. byteOk kind k (byteAt bs k)) stepBytes i e l)) ∙ listed stepBytes bs n
   where
-    same : (must : Bool) (x : ℕ) → (eqb x 0 || not must) ≡ true → cond must 0 x ≡ x
-    same true x e = ⊎-elim (λ z. sym (eqb-true x 0 z)) (λ z. not-both false z refl) (or-cases (eqb x 0) false e)
+    same : (must : Bool) (x : ℕ) → cond must (eqb x 0) true ≡ true → cond must 0 x ≡ x
+    same true x e = sym (eqb-true x 0 e)
     same false x e = refl
 
     one : (i : ℕ) → byteOk kind i (byteAt bs i) ≡ true → cond (mustBeZero kind i) 0 (byteAt bs i) ≡ byteAt bs i

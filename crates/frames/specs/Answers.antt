@@ -1,5 +1,5 @@
 -- The frame of an answer, and what an answer frame tells. Assumes nothing.
-use mathlib.Core.Bool.{Bool, cond, _&&_}
+use mathlib.Core.Bool.{cond, _&&_}
 use mathlib.Core.List.{List, [], _∷_}
 use Prim.Native.Nat.{ℕ}
 use lib.Dec.{eqb}
@@ -45,6 +45,7 @@ writeTelling t = hexOf (bytesOfTelling t)
 abbrev pub writeAnswer : Answer → List ℕ
 writeAnswer a = writeTelling (tellingOf a)
 
+-- every refusal
 abbrev pub refusals : List Refusal
 refusals =
     NotAFrame ∷ IllFormed ∷ OutOfRange ∷ WrongRole ∷ ConditionUnmet ∷ LogFull ∷ AtLimit ∷ NotYet ∷ BelowCommitPoint ∷ NoSuchEntry ∷ []
@@ -57,12 +58,13 @@ numbered n (r ∷ rs) = cond (eqb n (refusalNumber r)) (R.Telling (Refusing r)) 
 unfoldable pub refusalOf : ℕ → ReadAnswer
 refusalOf n = numbered n refusals
 
--- a refusal is followed by zeros
+-- 0 and the numbers, or a refusal followed by zeros
 unfoldable pub tellingBy : ℕ → ℕ → ℕ → Time → ReadAnswer
 tellingBy refusal number term time =
     cond (eqb refusal done) (R.Telling (Numbers number term time))
     (cond (eqb number 0 && (eqb term 0 && sameTime time zeroTime)) (refusalOf refusal) R.NoFrame)
 
+-- the bytes, in the same order
 unfoldable pub tellingIn : List ℕ → ReadAnswer
 tellingIn bs = tellingBy (byteAt bs 0) (wordAt bs 1) (wordAt bs 3) (record { p = wordAt bs 5; l = wordAt bs 7 })
 

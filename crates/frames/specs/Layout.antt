@@ -1,5 +1,5 @@
 -- The layout of a step frame, and which of its bytes each kind uses. Assumes nothing.
-use mathlib.Core.Bool.{Bool, false, cond, not, _||_}
+use mathlib.Core.Bool.{Bool, true, false, cond, not, _||_}
 use mathlib.Core.List.{List, [], _∷_}
 use Prim.Native.Nat.{ℕ, _/_, _%_, _^_}
 use lib.Dec.{eqb}
@@ -77,7 +77,7 @@ unfoldable pub isTable : List ℕ → Bool
 isTable masks = every kinds (λ kind. every stepBytes (λ i. eqb (getD masks kind 0 / 2 ^ i % 2) (cond (mustBeZero kind i) 1 0)))
 
 abbrev pub byteOk : ℕ → ℕ → ℕ → Bool
-byteOk kind i b = eqb b 0 || not (mustBeZero kind i)
+byteOk kind i b = cond (mustBeZero kind i) (eqb b 0) true
 
 -- every byte of a frame that its kind doesn't use is zero
 unfoldable pub isClean : ℕ → List ℕ → Bool

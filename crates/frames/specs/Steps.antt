@@ -34,6 +34,7 @@ frameFor (MajorityRead a key time) = fields 11 a 0 0 key 0 0 time
 frameFor (Acknowledged a count position term) = fields 12 a 0 count 0 position term zeroTime
 frameFor ClocksAgree = fields 13 0 0 0 0 0 0 zeroTime
 
+-- the bytes of a frame, high byte first
 unfoldable pub bytesOfFrame : Frame → List ℕ
 bytesOfFrame f =
     f .kind ∷ f .a ∷ f .b ∷ f .set ∷ f .key ∷ highOf (f .number) ∷ lowOf (f .number) ∷ highOf (f .term) ∷ lowOf (f .term)
@@ -42,6 +43,7 @@ bytesOfFrame f =
 abbrev pub writeStep : Step → List ℕ
 writeStep s = hexOf (bytesOfFrame (frameFor s))
 
+-- the fields at their places
 unfoldable pub frameOf : List ℕ → Frame
 frameOf bs =
     fields (byteAt bs kindAt) (byteAt bs aAt) (byteAt bs bAt) (byteAt bs setAt) (byteAt bs keyAt) (wordAt bs numberAt) (wordAt bs termAt)
@@ -70,6 +72,7 @@ stepsOf f =
 unfoldable pub stepOf : Frame → ReadStep
 stepOf f = getD (stepsOf f) (f .kind) R.NoFrame
 
+-- an unused byte that is not zero is no frame
 unfoldable pub stepIn : List ℕ → ReadStep
 stepIn bs = cond (isClean (byteAt bs kindAt) bs) (stepOf (frameOf bs)) R.NoFrame
 

@@ -1,9 +1,10 @@
-// Step frames and answer frames: lines of lower-case hexadecimal, each read and written by one layout.
+// Step frames and answer frames: lines of hexadecimal, each read and written by one layout.
 ghost use mathlib.Core.Path.{_≡_};
 ghost use Rattle.steps.specs.Refusals.{refusalNumber};
 ghost use Rattle.frames.specs.Steps.{fields, frameFor, bytesOfFrame, frameOf, stepOf, stepIn, readStep, writeStep};
 ghost use Rattle.frames.specs.Answers.{answerFrame, refusalByte, bytesOfTelling, refusalOf, tellingBy, tellingIn, readAnswer, writeAnswer};
 use clock::Time;
+use clock::ZERO_TIME;
 use steps::Answer;
 use steps::Refusal;
 use steps::Step;
@@ -48,8 +49,6 @@ const ANSWER_BYTES: usize = 9;
 
 // How many characters an answer frame has.
 pub const ANSWER_CHARS: usize = hex::CHARS * ANSWER_BYTES;
-
-const NO_TIME: Time = clock::ZERO_TIME;
 
 // The kinds' numbers.
 const START: u8 = 0;
@@ -191,20 +190,20 @@ fn frame_for(s: Step) -> Frame
     ensures { λ r. ⌜ r ≡ frameFor s ⌝ }
 {
     match s {
-        Step::Start(a) => fields(START, a, 0, 0, 0, 0, 0, NO_TIME),
-        Step::Elect(a, set) => fields(ELECT, a, 0, set, 0, 0, 0, NO_TIME),
-        Step::StepDown(a) => fields(STEP_DOWN, a, 0, 0, 0, 0, 0, NO_TIME),
-        Step::Hears(a, b) => fields(HEARS, a, b, 0, 0, 0, 0, NO_TIME),
-        Step::Pulls(a, b) => fields(PULLS, a, b, 0, 0, 0, 0, NO_TIME),
-        Step::RollsBack(a, b) => fields(ROLLS_BACK, a, b, 0, 0, 0, 0, NO_TIME),
-        Step::Writes(a, key, value) => fields(WRITES, a, 0, 0, key, value, 0, NO_TIME),
-        Step::Advances(a) => fields(ADVANCES, a, 0, 0, 0, 0, 0, NO_TIME),
-        Step::WallClock(a) => fields(WALL_CLOCK, a, 0, 0, 0, 0, 0, NO_TIME),
-        Step::Restarts(a) => fields(RESTARTS, a, 0, 0, 0, 0, 0, NO_TIME),
+        Step::Start(a) => fields(START, a, 0, 0, 0, 0, 0, ZERO_TIME),
+        Step::Elect(a, set) => fields(ELECT, a, 0, set, 0, 0, 0, ZERO_TIME),
+        Step::StepDown(a) => fields(STEP_DOWN, a, 0, 0, 0, 0, 0, ZERO_TIME),
+        Step::Hears(a, b) => fields(HEARS, a, b, 0, 0, 0, 0, ZERO_TIME),
+        Step::Pulls(a, b) => fields(PULLS, a, b, 0, 0, 0, 0, ZERO_TIME),
+        Step::RollsBack(a, b) => fields(ROLLS_BACK, a, b, 0, 0, 0, 0, ZERO_TIME),
+        Step::Writes(a, key, value) => fields(WRITES, a, 0, 0, key, value, 0, ZERO_TIME),
+        Step::Advances(a) => fields(ADVANCES, a, 0, 0, 0, 0, 0, ZERO_TIME),
+        Step::WallClock(a) => fields(WALL_CLOCK, a, 0, 0, 0, 0, 0, ZERO_TIME),
+        Step::Restarts(a) => fields(RESTARTS, a, 0, 0, 0, 0, 0, ZERO_TIME),
         Step::LocalRead(a, key, time) => fields(LOCAL_READ, a, 0, 0, key, 0, 0, time),
         Step::MajorityRead(a, key, time) => fields(MAJORITY_READ, a, 0, 0, key, 0, 0, time),
-        Step::Acknowledged(a, n, at, term) => fields(ACKNOWLEDGED, a, 0, n, 0, at, term, NO_TIME),
-        Step::ClocksAgree => fields(CLOCKS_AGREE, 0, 0, 0, 0, 0, 0, NO_TIME),
+        Step::Acknowledged(a, n, at, term) => fields(ACKNOWLEDGED, a, 0, n, 0, at, term, ZERO_TIME),
+        Step::ClocksAgree => fields(CLOCKS_AGREE, 0, 0, 0, 0, 0, 0, ZERO_TIME),
     }
 }
 
@@ -287,7 +286,7 @@ fn bytes_of_telling(t: Telling) -> [u8; ANSWER_BYTES]
     ensures { λ r. ⌜ r ≡ bytesOfTelling t ⌝ }
 {
     let Telling::Numbers(number, term, time) = t else {
-        return answer_frame(refusal_byte(t), 0, 0, NO_TIME);
+        return answer_frame(refusal_byte(t), 0, 0, ZERO_TIME);
     };
     answer_frame(DONE, number, term, time)
 }
@@ -329,7 +328,7 @@ fn telling_by(refusal: u8, number: u16, term: u16, time: Time) -> ReadAnswer
     if term != 0 {
         return ReadAnswer::NoFrame;
     }
-    if !clock::same_time(time, NO_TIME) {
+    if !clock::same_time(time, ZERO_TIME) {
         return ReadAnswer::NoFrame;
     }
     refusal_of(refusal)

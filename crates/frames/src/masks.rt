@@ -39,10 +39,11 @@ fn byte_ok(kind: usize, i: usize, b: u8) -> bool
     requires { ⌜ (kind < kinds) × (i < stepBytes) ⌝ }
     ensures { λ r. ⌜ r ≡ byteOk kind i b ⌝ }
 {
-    if b == 0 {
-        return true;
+    if must_be_zero(MUST_BE_ZERO, kind, i) {
+        b == 0
+    } else {
+        true
     }
-    !must_be_zero(MUST_BE_ZERO, kind, i)
 }
 
 // Whether every byte that the kind doesn't use is zero.

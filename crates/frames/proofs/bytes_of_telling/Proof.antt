@@ -1,49 +1,38 @@
+-- `frames::bytes_of_telling` meets its contract. Assumes nothing.
 use Rattle.clock.specs.Times.{zeroTime}
 use Rattle.steps.specs.declared.Refusal.{Refusal}
 use Rattle.steps.specs.declared.Telling.{Telling}
 use Rattle.steps.specs.declared.Telling.the-variants.{Refusing}
-use Rattle.frames.specs.Answers.{answerFrame, refusalByte}
+use Rattle.frames.specs.Answers.{answerFrame, refusalByte, bytesOfTelling}
 use Prim.Native.Nat.{ℕ}
-use Rattle.frames.specs.Answers.{bytesOfTelling}
 use mathlib.Core.Path.{_≡_, sym, ap, _∙_}
 use borrow.Author.Needs.{needs}
 use Rattle.frames.proofs.bytes_of_telling.Statement.{statement}
 use Rattle.frames.proofs.bytes_of_telling.Tie as tie
-use Rattle.frames.proofs.bytes_of_telling.Reads as reads
-use Rattle.frames.proofs.bytes_of_telling.Lts as lts
-use Rattle.frames.proofs.answer_frame.Reads as answer-frame-reads
-use Rattle.frames.proofs.refusal_byte.Reads as refusal-byte-reads
 
 refused : (t : Telling) (r : Refusal) → t ≡ Refusing r → answerFrame (refusalByte t) 0 0 zeroTime ≡ bytesOfTelling t
 refused t r e = rw e
 
--- src/lib.rt:289:26
 enum-known-t : tie.Need-enum-known-t
 enum-known-t c = search needs
 
--- src/lib.rt:290:29
 enum-told : tie.Need-enum-told
 enum-told c = search needs
 
--- src/lib.rt:290:29
 refusal-byte-requires : tie.Need-refusal-byte-requires
 refusal-byte-requires c κs = search needs
 
--- src/lib.rt:290:9
 answer-frame-requires : tie.Need-answer-frame-requires
 answer-frame-requires c κs = search needs
 
--- src/lib.rt:290:9
 returns : tie.Need-returns
 returns c =
     c .answer-frame .ensures ∙ ap (λ (n : ℕ). answerFrame n 0 0 zeroTime) (c .before .refusal-byte .ensures)
     ∙ refused _ _ (c .before .before .enum-told .given .1)
 
--- src/lib.rt:292:5
 answer-frame-requires-2 : tie.Need-answer-frame-requires-2
 answer-frame-requires-2 c κs = search needs
 
--- src/lib.rt:286:1
 returns-2 : tie.Need-returns-2
 returns-2 c = c .answer-frame2 .ensures ∙ sym (ap bytesOfTelling (c .before .before .t .given .1))
 

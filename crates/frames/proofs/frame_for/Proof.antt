@@ -1,189 +1,146 @@
+-- `frames::frame_for` meets its contract. Assumes nothing.
 use Rattle.frames.specs.Steps.{frameFor}
 use mathlib.Core.Path.{sym, ap, _∙_}
 use borrow.Author.Needs.{needs}
 use Rattle.frames.proofs.frame_for.Statement.{statement}
 use Rattle.frames.proofs.frame_for.Tie as tie
-use Rattle.frames.proofs.frame_for.Reads as reads
-use Rattle.frames.proofs.frame_for.Lts as lts
-use Rattle.frames.proofs.fields.Reads as fields-reads
 
--- src/lib.rt:194:21
 enum-known-s : tie.Need-enum-known-s
 enum-known-s c = search needs
 
--- src/lib.rt:194:27
 fields-requires : tie.Need-fields-requires
 fields-requires c κs = search needs
 
--- src/lib.rt:195:21
 enum-known-s-2 : tie.Need-enum-known-s-2
 enum-known-s-2 c = search needs
 
--- src/lib.rt:195:32
 fields-requires-2 : tie.Need-fields-requires-2
 fields-requires-2 c κs = search needs
 
--- src/lib.rt:196:24
 enum-known-s-3 : tie.Need-enum-known-s-3
 enum-known-s-3 c = search needs
 
--- src/lib.rt:196:30
 fields-requires-3 : tie.Need-fields-requires-3
 fields-requires-3 c κs = search needs
 
--- src/lib.rt:197:21
 enum-known-s-4 : tie.Need-enum-known-s-4
 enum-known-s-4 c = search needs
 
--- src/lib.rt:197:30
 fields-requires-4 : tie.Need-fields-requires-4
 fields-requires-4 c κs = search needs
 
--- src/lib.rt:198:21
 enum-known-s-5 : tie.Need-enum-known-s-5
 enum-known-s-5 c = search needs
 
--- src/lib.rt:198:30
 fields-requires-5 : tie.Need-fields-requires-5
 fields-requires-5 c κs = search needs
 
--- src/lib.rt:199:25
 enum-known-s-6 : tie.Need-enum-known-s-6
 enum-known-s-6 c = search needs
 
--- src/lib.rt:199:34
 fields-requires-6 : tie.Need-fields-requires-6
 fields-requires-6 c κs = search needs
 
--- src/lib.rt:200:22
 enum-known-s-7 : tie.Need-enum-known-s-7
 enum-known-s-7 c = search needs
 
--- src/lib.rt:200:40
 fields-requires-7 : tie.Need-fields-requires-7
 fields-requires-7 c κs = search needs
 
--- src/lib.rt:201:24
 enum-known-s-8 : tie.Need-enum-known-s-8
 enum-known-s-8 c = search needs
 
--- src/lib.rt:201:30
 fields-requires-8 : tie.Need-fields-requires-8
 fields-requires-8 c κs = search needs
 
--- src/lib.rt:202:25
 enum-known-s-9 : tie.Need-enum-known-s-9
 enum-known-s-9 c = search needs
 
--- src/lib.rt:202:31
 fields-requires-9 : tie.Need-fields-requires-9
 fields-requires-9 c κs = search needs
 
--- src/lib.rt:203:24
 enum-known-s-10 : tie.Need-enum-known-s-10
 enum-known-s-10 c = search needs
 
--- src/lib.rt:203:30
 fields-requires-10 : tie.Need-fields-requires-10
 fields-requires-10 c κs = search needs
 
--- src/lib.rt:204:25
 enum-known-s-11 : tie.Need-enum-known-s-11
 enum-known-s-11 c = search needs
 
--- src/lib.rt:204:42
 fields-requires-11 : tie.Need-fields-requires-11
 fields-requires-11 c κs = search needs
 
--- src/lib.rt:205:28
 enum-known-s-12 : tie.Need-enum-known-s-12
 enum-known-s-12 c = search needs
 
--- src/lib.rt:205:45
 fields-requires-12 : tie.Need-fields-requires-12
 fields-requires-12 c κs = search needs
 
--- src/lib.rt:206:28
 enum-known-s-13 : tie.Need-enum-known-s-13
 enum-known-s-13 c = search needs
 
--- src/lib.rt:206:47
 fields-requires-13 : tie.Need-fields-requires-13
 fields-requires-13 c κs = search needs
 
 enum-told : tie.Need-enum-told
 enum-told c = search needs
 
--- src/lib.rt:207:30
 fields-requires-14 : tie.Need-fields-requires-14
 fields-requires-14 c κs = search needs
 
--- src/lib.rt:190:1
 returns : tie.Need-returns
 unfolding frameFor
 returns c = c .fields .ensures ∙ sym (ap frameFor (c .before .before .s .given .1))
 
--- src/lib.rt:190:1
 returns-2 : tie.Need-returns-2
 unfolding frameFor
 returns-2 c = c .fields2 .ensures ∙ sym (ap frameFor (c .before .before .s2 .given .1))
 
--- src/lib.rt:190:1
 returns-3 : tie.Need-returns-3
 unfolding frameFor
 returns-3 c = c .fields3 .ensures ∙ sym (ap frameFor (c .before .before .s3 .given .1))
 
--- src/lib.rt:190:1
 returns-4 : tie.Need-returns-4
 unfolding frameFor
 returns-4 c = c .fields4 .ensures ∙ sym (ap frameFor (c .before .before .s4 .given .1))
 
--- src/lib.rt:190:1
 returns-5 : tie.Need-returns-5
 unfolding frameFor
 returns-5 c = c .fields5 .ensures ∙ sym (ap frameFor (c .before .before .s5 .given .1))
 
--- src/lib.rt:190:1
 returns-6 : tie.Need-returns-6
 unfolding frameFor
 returns-6 c = c .fields6 .ensures ∙ sym (ap frameFor (c .before .before .s6 .given .1))
 
--- src/lib.rt:190:1
 returns-7 : tie.Need-returns-7
 unfolding frameFor
 returns-7 c = c .fields7 .ensures ∙ sym (ap frameFor (c .before .before .s7 .given .1))
 
--- src/lib.rt:190:1
 returns-8 : tie.Need-returns-8
 unfolding frameFor
 returns-8 c = c .fields8 .ensures ∙ sym (ap frameFor (c .before .before .s8 .given .1))
 
--- src/lib.rt:190:1
 returns-9 : tie.Need-returns-9
 unfolding frameFor
 returns-9 c = c .fields9 .ensures ∙ sym (ap frameFor (c .before .before .s9 .given .1))
 
--- src/lib.rt:190:1
 returns-10 : tie.Need-returns-10
 unfolding frameFor
 returns-10 c = c .fields10 .ensures ∙ sym (ap frameFor (c .before .before .s10 .given .1))
 
--- src/lib.rt:190:1
 returns-11 : tie.Need-returns-11
 unfolding frameFor
 returns-11 c = c .fields11 .ensures ∙ sym (ap frameFor (c .before .before .s11 .given .1))
 
--- src/lib.rt:190:1
 returns-12 : tie.Need-returns-12
 unfolding frameFor
 returns-12 c = c .fields12 .ensures ∙ sym (ap frameFor (c .before .before .s12 .given .1))
 
--- src/lib.rt:190:1
 returns-13 : tie.Need-returns-13
 unfolding frameFor
 returns-13 c = c .fields13 .ensures ∙ sym (ap frameFor (c .before .before .s13 .given .1))
 
--- src/lib.rt:190:1
 returns-14 : tie.Need-returns-14
 unfolding frameFor
 returns-14 c = c .fields14 .ensures ∙ sym (ap frameFor (c .before .enum-told .given .1))

@@ -1,3 +1,4 @@
+-- `frames::read_answer` meets its contract. Assumes nothing.
 use Rattle.frames.specs.declared.ReadAnswer.the-variants.{NoFrame}
 use Rattle.frames.specs.Answers.{answerBytes, tellingIn}
 use Rattle.frames.proofs.Framed.{framed-other, framed-spoilt, framed-unhexed}
@@ -6,37 +7,25 @@ use mathlib.Core.Path.{_∙_}
 use borrow.Author.Needs.{needs}
 use Rattle.frames.proofs.read_answer.Statement.{statement}
 use Rattle.frames.proofs.read_answer.Tie as tie
-use Rattle.frames.proofs.read_answer.Reads as reads
-use Rattle.frames.proofs.read_answer.Lts as lts
-use Rattle.frames.proofs.telling_in.Reads as telling-in-reads
-use Rattle.hex.proofs.all_hex.Reads as all-hex-reads
-use Rattle.hex.proofs.unhex.Reads as unhex-reads
 
--- src/lib.rt:353:9
 returns : tie.Need-returns
 returns c = framed-other answerBytes tellingIn NoFrame _ (c .if1 .taken)
 
--- src/lib.rt:355:9
 all-hex-requires : tie.Need-all-hex-requires
 all-hex-requires c κs = search needs
 
--- src/lib.rt:356:9
 returns-2 : tie.Need-returns-2
 returns-2 c = framed-spoilt answerBytes tellingIn NoFrame _ (c .before .before .if1 .left) (said-no _ _ (c .before .all-hex .ensures) (c .if2 .taken))
 
--- src/lib.rt:359:22
 slice-aggregate-unhex : tie.Need-slice-aggregate-unhex
 slice-aggregate-unhex c = search needs
 
--- src/lib.rt:359:5
 unhex-requires : tie.Need-unhex-requires
 unhex-requires c κs = search needs
 
--- src/lib.rt:360:5
 telling-in-requires : tie.Need-telling-in-requires
 telling-in-requires c κs = search needs
 
--- src/lib.rt:349:1
 returns-3 : tie.Need-returns-3
 returns-3 c =
     let d = c .before .before .before .before in

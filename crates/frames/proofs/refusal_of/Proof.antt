@@ -1,3 +1,4 @@
+-- `frames::refusal_of` meets its contract. Assumes nothing.
 use Rattle.frames.specs.Answers.{refusalOf}
 use Rattle.frames.proofs.Numbered.{in-order, no-refusal}
 use native.Mathlib.Omega.{arith}
@@ -6,27 +7,20 @@ use Prim.Native.Nat.{suc, _-_}
 use borrow.Author.Needs.{needs}
 use Rattle.frames.proofs.refusal_of.Statement.{statement}
 use Rattle.frames.proofs.refusal_of.Tie as tie
-use Rattle.frames.proofs.refusal_of.Reads as reads
-use Rattle.frames.proofs.refusal_of.Lts as lts
 
--- src/lib.rt:311:9
 returns : tie.Need-returns
 unfolding refusalOf
 returns c = sym (ap refusalOf (c .if1 .taken))
 
--- src/lib.rt:314:9
 returns-2 : tie.Need-returns-2
 returns-2 c = sym (no-refusal _ (c .if2 .taken))
 
--- src/lib.rt:316:52
 sub-t15 : tie.Need-sub-t15
 sub-t15 c = search needs
 
--- src/lib.rt:316:43
 array-copy-out-t18 : tie.Need-array-copy-out-t18
 array-copy-out-t18 c = search needs
 
--- src/lib.rt:306:1
 returns-3 : tie.Need-returns-3
 returns-3 c =
     let n = c .before .before .before .args .n in

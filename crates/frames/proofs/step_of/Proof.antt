@@ -1,3 +1,4 @@
+-- `frames::step_of` meets its contract. Assumes nothing.
 use Rattle.frames.specs.declared.Frame.{Frame}
 use Rattle.frames.specs.declared.ReadStep.the-variants.{NoFrame}
 use Rattle.frames.specs.Layout.{kinds}
@@ -6,11 +7,9 @@ use Rattle.frames.proofs.Unknown.{unknown-kind}
 use native.Mathlib.Omega.{arith}
 use lib.ListN.{getD}
 use mathlib.Core.Path.{_≡_, sym, ap}
-use Prim.Native.Nat.{ℕ, zero, suc, _<_, _≤_}
+use Prim.Native.Nat.{ℕ, zero, suc, _≤_}
 use Rattle.frames.proofs.step_of.Statement.{statement}
 use Rattle.frames.proofs.step_of.Tie as tie
-use Rattle.frames.proofs.step_of.Reads as reads
-use Rattle.frames.proofs.step_of.Lts as lts
 
 -- k is none of the numbers below n
 NoneBelow : ℕ → ℕ → Type 0
@@ -26,63 +25,48 @@ at-kind : (f : Frame) (n : ℕ) → f .kind ≡ n → getD (stepsOf f) n NoFrame
 unfolding stepOf
 at-kind f n e = sym (ap (λ (k : ℕ). getD (stepsOf f) k NoFrame) e)
 
--- src/lib.rt:114:1
 returns : tie.Need-returns
 returns c = at-kind (c .before .before .args .f) 0 (c .match .keys1)
 
--- src/lib.rt:114:1
 returns-2 : tie.Need-returns-2
 returns-2 c = at-kind (c .before .before .args .f) 1 (c .match .keys2)
 
--- src/lib.rt:114:1
 returns-3 : tie.Need-returns-3
 returns-3 c = at-kind (c .before .before .args .f) 2 (c .match .keys3)
 
--- src/lib.rt:114:1
 returns-4 : tie.Need-returns-4
 returns-4 c = at-kind (c .before .before .args .f) 3 (c .match .keys4)
 
--- src/lib.rt:114:1
 returns-5 : tie.Need-returns-5
 returns-5 c = at-kind (c .before .before .args .f) 4 (c .match .keys5)
 
--- src/lib.rt:114:1
 returns-6 : tie.Need-returns-6
 returns-6 c = at-kind (c .before .before .args .f) 5 (c .match .keys6)
 
--- src/lib.rt:114:1
 returns-7 : tie.Need-returns-7
 returns-7 c = at-kind (c .before .before .args .f) 6 (c .match .keys7)
 
--- src/lib.rt:114:1
 returns-8 : tie.Need-returns-8
 returns-8 c = at-kind (c .before .before .args .f) 7 (c .match .keys8)
 
--- src/lib.rt:114:1
 returns-9 : tie.Need-returns-9
 returns-9 c = at-kind (c .before .before .args .f) 8 (c .match .keys9)
 
--- src/lib.rt:114:1
 returns-10 : tie.Need-returns-10
 returns-10 c = at-kind (c .before .before .args .f) 9 (c .match .keys10)
 
--- src/lib.rt:114:1
 returns-11 : tie.Need-returns-11
 returns-11 c = at-kind (c .before .before .args .f) 10 (c .match .keys11)
 
--- src/lib.rt:114:1
 returns-12 : tie.Need-returns-12
 returns-12 c = at-kind (c .before .before .args .f) 11 (c .match .keys12)
 
--- src/lib.rt:114:1
 returns-13 : tie.Need-returns-13
 returns-13 c = at-kind (c .before .before .args .f) 12 (c .match .keys13)
 
--- src/lib.rt:114:1
 returns-14 : tie.Need-returns-14
 returns-14 c = at-kind (c .before .before .args .f) 13 (c .match .keys14)
 
--- src/lib.rt:114:1
 returns-15 : tie.Need-returns-15
 unfolding NoneBelow
 returns-15 c = let f = c .before .before .args .f in sym (unknown-kind f (above (f .kind) kinds (c .match .rest)))

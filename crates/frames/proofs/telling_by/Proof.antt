@@ -1,43 +1,33 @@
+-- `frames::telling_by` meets its contract. Assumes nothing.
 use Rattle.frames.specs.Answers.{tellingBy}
 use Rattle.base.proofs.Bools.{said-no, said-yes}
 use Rattle.base.proofs.Facts.{tests}
 use borrow.Author.Needs.{needs}
 use Rattle.frames.proofs.telling_by.Statement.{statement}
 use Rattle.frames.proofs.telling_by.Tie as tie
-use Rattle.frames.proofs.telling_by.Reads as reads
-use Rattle.frames.proofs.telling_by.Lts as lts
-use Rattle.clock.proofs.same_time.Reads as same-time-reads
-use Rattle.frames.proofs.refusal_of.Reads as refusal-of-reads
 
--- src/lib.rt:324:9
 returns : tie.Need-returns
 unfolding tellingBy
 returns c = search (needs, tests)
 
--- src/lib.rt:327:9
 returns-2 : tie.Need-returns-2
 unfolding tellingBy
 returns-2 c = search (needs, tests)
 
--- src/lib.rt:330:9
 returns-3 : tie.Need-returns-3
 unfolding tellingBy
 returns-3 c = search (needs, tests)
 
--- src/lib.rt:332:9
 same-time-requires : tie.Need-same-time-requires
 same-time-requires c κs = search needs
 
--- src/lib.rt:333:9
 returns-4 : tie.Need-returns-4
 unfolding tellingBy
 returns-4 c = search (needs, tests, said-no _ _ (c .before .same-time .ensures) (c .if4 .taken))
 
--- src/lib.rt:335:5
 refusal-of-requires : tie.Need-refusal-of-requires
 refusal-of-requires c κs = search needs
 
--- src/lib.rt:320:1
 returns-5 : tie.Need-returns-5
 unfolding tellingBy
 returns-5 c = search (needs, tests, said-yes _ _ (c .before .before .same-time .ensures) (c .before .if4 .left), ← c .refusal-of .ensures)

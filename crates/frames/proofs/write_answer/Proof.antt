@@ -1,3 +1,4 @@
+-- `frames::write_answer` meets its contract. Assumes nothing.
 use Rattle.steps.specs.Answers.{tellingOf}
 use Rattle.hex.specs.Lines.{hexOf}
 use Rattle.hex.proofs.Trips.{enhexed}
@@ -8,33 +9,22 @@ use lib.ListN.{length}
 use borrow.Author.Needs.{needs}
 use Rattle.frames.proofs.write_answer.Statement.{statement}
 use Rattle.frames.proofs.write_answer.Tie as tie
-use Rattle.frames.proofs.write_answer.Reads as reads
-use Rattle.frames.proofs.write_answer.Lts as lts
-use Rattle.frames.proofs.bytes_of_telling.Reads as bytes-of-telling-reads
-use Rattle.hex.proofs.enhex.Reads as enhex-reads
-use Rattle.steps.proofs.told.Reads as told-reads
 
--- src/lib.rt:299:30
 told-requires : tie.Need-told-requires
 told-requires c κs = search needs
 
--- src/lib.rt:299:13
 bytes-of-telling-requires : tie.Need-bytes-of-telling-requires
 bytes-of-telling-requires c κs = search needs
 
--- src/lib.rt:301:16
 slice-aggregate-enhex : tie.Need-slice-aggregate-enhex
 slice-aggregate-enhex c = search needs
 
--- src/lib.rt:301:20
 slice-aggregate-enhex-2 : tie.Need-slice-aggregate-enhex-2
 slice-aggregate-enhex-2 c = search needs
 
--- src/lib.rt:301:5
 enhex-requires : tie.Need-enhex-requires
 enhex-requires c κs = search needs
 
--- src/lib.rt:296:1
 returns : tie.Need-returns
 returns c =
     let d = c .before .before .before .before in

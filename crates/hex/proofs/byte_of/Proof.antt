@@ -1,6 +1,5 @@
 -- `hex::byte_of` meets its contract. Assumes nothing.
 use Rattle.hex.specs.Digits.{byteOf}
-use mathlib.Core.Path.{_≡_}
 use borrow.Author.Needs.{needs}
 use Rattle.hex.proofs.byte_of.Statement.{statement}
 use Rattle.hex.proofs.byte_of.Tie as tie

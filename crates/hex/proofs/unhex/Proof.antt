@@ -4,7 +4,7 @@ use Rattle.hex.proofs.Places.{bytes-length, byte-at, Put, put-none, put
 use native.Mathlib.Omega.{arith}
 use lib.ListN.{length}
 use mathlib.Core.Path.{sym, _∙_}
-use Prim.Native.Nat.{_<_, _-_}
+use Prim.Native.Nat.{_-_}
 use borrow.Author.Needs.{needs}
 use Rattle.hex.proofs.unhex.Statement.{statement}
 use Rattle.hex.proofs.unhex.Tie as tie

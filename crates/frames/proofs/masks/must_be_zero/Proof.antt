@@ -1,27 +1,21 @@
+-- `frames::masks::must_be_zero` meets its contract. Assumes nothing.
 use Rattle.frames.proofs.Table.{table-says}
 use borrow.Author.Needs.{needs}
 use Rattle.frames.proofs.masks.must_be_zero.Statement.{statement}
 use Rattle.frames.proofs.masks.must_be_zero.Tie as tie
-use Rattle.frames.proofs.masks.must_be_zero.Reads as reads
-use Rattle.frames.proofs.masks.must_be_zero.Lts as lts
 
--- src/masks.rt:33:13
 mul-m : tie.Need-mul-m
 mul-m c = search needs
 
--- src/masks.rt:33:13
 array-read-m : tie.Need-array-read-m
 array-read-m c = search needs
 
--- src/masks.rt:34:11
 cast-result : tie.Need-cast-result
 cast-result c = search needs
 
--- src/masks.rt:34:6
 shr-result : tie.Need-shr-result
 shr-result c = search needs
 
--- src/masks.rt:29:1
 returns : tie.Need-returns
 returns c = table-says _ (c .pre .0) (c .args .kind) (c .args .i) (search needs) (search needs)
 
