@@ -1,0 +1,71 @@
+-- A start line that is answered with done begins a fresh cluster of two to seven servers. Assumes nothing.
+use mathlib.Core.Path.{_≡_, refl, ap, sym, _∙_}
+use mathlib.Core.Logic.{⊎-elim}
+use mathlib.Core.Bool.{true, false}
+use Prim.Native.Nat.{ℕ, _≤_}
+use native.Mathlib.Omega.{arith}
+use borrow.Author.Tests.{leb-true}
+use Rattle.base.proofs.Bools.{not-both}
+use Rattle.cluster.specs.declared.Cluster.{Cluster}
+use Rattle.cluster.specs.Servers.{fewestServers, mostServers, freshCluster}
+use Rattle.steps.specs.declared.Answer.{Answer}
+use Rattle.steps.specs.declared.Answer.the-variants.{Done, Refused}
+use Rattle.steps.specs.declared.Outcome.{Outcome}
+use Rattle.steps.specs.declared.Step.{Step}
+use Rattle.steps.specs.declared.Step.the-variants.{Start, Elect, StepDown, Hears, Pulls, RollsBack, Writes, Advances, WallClock, Restarts, LocalRead, MajorityRead, Acknowledged, ClocksAgree}
+use Rattle.steps.proofs.Decided.{Clear}
+use Rattle.wholes.specs.Starts.{startRules}
+use Rattle.rules.specs.Rules.{rulesOf, isStart, stepOf}
+use Rattle.rules.proofs.Outcomes.{StepRefused, step-cases}
+use Rattle.rules.proofs.Keeps.{start-fresh}
+use Rattle.frames.specs.declared.ReadStep.the-variants as R
+use Rattle.frames.specs.Steps.{readStep}
+use Rattle.replay.specs.Texts.{respond, answerTo}
+use Rattle.demand3.specs.Promise.{Line, Begins}
+
+-- a start names its servers
+pub start-of : (s : Step) → isStart s ≡ true → (n : ℕ) × (s ≡ Start n)
+start-of (Start n) e = (n, refl)
+start-of (Elect a m) e = not-both false e refl
+start-of (StepDown a) e = not-both false e refl
+start-of (Hears a b) e = not-both false e refl
+start-of (Pulls a b) e = not-both false e refl
+start-of (RollsBack a b) e = not-both false e refl
+start-of (Writes a key value) e = not-both false e refl
+start-of (Advances a) e = not-both false e refl
+start-of (WallClock a) e = not-both false e refl
+start-of (Restarts a) e = not-both false e refl
+start-of (LocalRead a key asked) e = not-both false e refl
+start-of (MajorityRead a key asked) e = not-both false e refl
+start-of (Acknowledged a k n term) e = not-both false e refl
+start-of ClocksAgree e = not-both false e refl
+
+-- a line is the step that it reads as
+pub answer-is : (c : Cluster) (line : Line) (s : Step) → readStep line ≡ R.Step s → answerTo c line ≡ stepOf c s
+unfolding answerTo respond
+answer-is c line s e = ap (respond c) e
+
+pub answer-of : {o p : Outcome} → o ≡ p → o .answer ≡ p .answer
+answer-of e = ap (λ (o : Outcome). o .answer) e
+
+-- the fresh cluster of n servers
+pub record Fresh (c : Cluster) (n : ℕ) : Type 0 where
+  pub fewest : fewestServers ≤ n
+  pub most : n ≤ mostServers
+  pub is : c ≡ freshCluster n
+
+pub clear-fresh : (c : Cluster) (n : ℕ) → Clear (startRules n) → Fresh (stepOf c (Start n) .cluster) n
+clear-fresh c n k = record { fewest = leb-true fewestServers n (k .0); most = leb-true n mostServers (k .1 .0); is = start-fresh c n k }
+
+start-clear : (c : Cluster) (n : ℕ) → stepOf c (Start n) .answer ≡ Done → Clear (startRules n)
+unfolding rulesOf
+start-clear c n d = ⊎-elim (λ k. k .clear) refused (step-cases c (Start n))
+  where
+    refused : StepRefused c (Start n) → Clear (startRules n)
+    refused k =
+        let q : _≡_ {A = Answer} (Refused (k .refusal)) Done = sym (answer-of (k .is)) ∙ d in
+        let z : _≡_ {A = ℕ} 0 1 = cc in absurd (omega arith)
+
+pub begins-fresh : (c : Cluster) (line : Line) (n : ℕ) → Begins c line n → Fresh (answerTo c line .cluster) n
+begins-fresh c line n b =
+    let e = answer-is c line (Start n) (b .reads) in rw e (clear-fresh c n (start-clear c n (sym (answer-of e) ∙ b .done)))

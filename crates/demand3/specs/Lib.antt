@@ -1,0 +1,2 @@
+-- What is promised of the lines of a text. Assumes nothing.
+pub mod Promise
