@@ -1,4 +1,4 @@
--- Refusal 9 is given to no line of any text, and no line that is written reads as it. Assumes nothing.
+-- Refusal 9 is given to no line of any text: a record comes from the last start that succeeded, or there was none. Assumes nothing.
 use mathlib.Core.Path.{_≡_, refl, ap, sym, _∙_, subst}
 use mathlib.Core.Logic.{_≢_, ⊎-elim}
 use mathlib.Core.Bool.{Bool, true, false, _||_}

@@ -59,7 +59,7 @@ no-feed n = go (ltb (n % radix) ten)
     go false = ne-eqb (charA + (n % radix - ten)) lineFeed (λ e. omega arith)
 
 -- hexadecimal that a line feed ends is a line
-hex-line : (bs rest : List ℕ) → lines (hexOf bs ++ (lineFeed ∷ rest)) ≡ hexOf bs ∷ lines rest
+pub hex-line : (bs rest : List ℕ) → lines (hexOf bs ++ (lineFeed ∷ rest)) ≡ hexOf bs ∷ lines rest
 hex-line [] rest = refl
 hex-line (b ∷ bs) rest = rw (no-feed (b / radix), no-feed (b % radix), hex-line bs rest)
 

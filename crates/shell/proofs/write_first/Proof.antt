@@ -1,9 +1,9 @@
--- `replay_main::write_first` meets its contract. Assumes nothing.
+-- `shell::write_first` meets its contract. Assumes nothing.
 use lib.Seq.{length-take-le}
 use mathlib.Core.Path.{sym}
 use borrow.Author.Needs.{needs}
-use Rattle.replay_main.proofs.write_first.Statement.{statement}
-use Rattle.replay_main.proofs.write_first.Tie as tie
+use Rattle.shell.proofs.write_first.Statement.{statement}
+use Rattle.shell.proofs.write_first.Tie as tie
 
 returns : tie.Need-returns
 returns c = search needs

@@ -1,10 +1,10 @@
--- `replay_main::drain` meets its contract. Assumes nothing.
+-- `shell::drain` meets its contract. Assumes nothing.
 use native.Mathlib.Omega.{arith}
 use lib.ListN.{length}
 use mathlib.Core.Path.{_≡_}
 use borrow.Author.Needs.{needs}
-use Rattle.replay_main.proofs.drain.Statement.{statement}
-use Rattle.replay_main.proofs.drain.Tie as tie
+use Rattle.shell.proofs.drain.Statement.{statement}
+use Rattle.shell.proofs.drain.Tie as tie
 
 abbrev Inv-loop : tie.InvT-loop
 Inv-loop out₀ d₀ turns₀ out d turns = length out ≡ length out₀

@@ -1,14 +1,12 @@
--- `replay_main::pour` meets its contract. Assumes nothing.
-use Rattle.replay.proofs.Whole.{within}
-use lib.Seq.{length-take-le}
-use lib.ListN.{length, take, drop, length-drop}
+-- `shell::pour` meets its contract. Assumes nothing.
+use lib.ListN.{length}
 use native.Mathlib.Omega.{arith}
-use Prim.Native.Nat.{ℕ, _≤_, _+_, _-_}
-use mathlib.Core.List.{List}
+use Prim.Native.Nat.{_≤_, _+_, _-_}
 use mathlib.Core.Path.{_≡_}
 use borrow.Author.Needs.{needs}
-use Rattle.replay_main.proofs.pour.Statement.{statement}
-use Rattle.replay_main.proofs.pour.Tie as tie
+use Rattle.shell.proofs.Parts.{taken-within}
+use Rattle.shell.proofs.pour.Statement.{statement}
+use Rattle.shell.proofs.pour.Tie as tie
 
 abbrev Inv-loop : tie.InvT-loop
 Inv-loop piece out₀ d₀ at₀ out d at = (at ≤ length piece) × (length out ≡ length out₀)
@@ -16,12 +14,9 @@ Inv-loop piece out₀ d₀ at₀ out d at = (at ≤ length piece) × (length out
 abbrev μ-loop : tie.MeasureT-loop
 μ-loop piece out₀ d₀ at₀ out d at = length piece - at
 
--- what was taken of a part stays within the piece
-room : (xs : List ℕ) (at n : ℕ) → at ≤ length xs → n ≤ length (take (length xs - at) (drop at xs)) → at + n ≤ length xs
-room xs at n h l = omega (arith, length-take-le (length xs - at) (drop at xs) (omega (arith, length-drop at xs)))
-
+-- what was taken of the rest stays within the piece
 taken : (c : tie.Else2 Inv-loop μ-loop) → c .before .before .before .before .before .before .before .before .before .before .before .loop .at + c .before .before .before .before .before .before .before .feed .result .taken ≤ length (c .before .before .before .before .before .before .before .before .before .before .before .before .before .before .args .piece .now)
-taken c = room (c .before .before .before .before .before .before .before .before .before .before .before .before .before .before .args .piece .now) (c .before .before .before .before .before .before .before .before .before .before .before .loop .at) _ (omega arith) (within _ _ _ _ (c .before .before .before .before .before .before .before .feed .ensures .0) .taken)
+taken c = taken-within _ (c .before .before .before .before .before .before .before .before .before .before .before .before .before .before .args .piece .now) (c .before .before .before .before .before .before .before .before .before .before .before .loop .at) _ _ (omega arith) (c .before .before .before .before .before .before .before .feed .ensures .0)
 
 loop-holds : tie.Need-loop-holds Inv-loop μ-loop
 loop-holds c = search needs

@@ -1,0 +1,2 @@
+-- The one statement about the table. Assumes nothing.
+pub mod Twelve

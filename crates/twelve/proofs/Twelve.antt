@@ -1,0 +1,13 @@
+-- 01's twelve cases hold: one statement over the table, computed. Assumes nothing.
+use mathlib.Core.Path.{_≡_, refl}
+use mathlib.Core.Bool.{true}
+use Rattle.base.specs.Numbers.{count, highest}
+use Rattle.clock.specs.Times.{isBefore, sameTime, tickOf}
+use Rattle.log.specs.Entries.{sameEntry, entryAt, equalAt, commonBeginning}
+use Rattle.cluster.specs.Sets.{member}
+use Rattle.wholes.specs.Advances.{backs, passes, highestPassing}
+use Rattle.twelve.specs.Table.{all, holds, table}
+
+pub all-hold : all holds table ≡ true
+unfolding holds count highest isBefore sameTime tickOf sameEntry entryAt equalAt commonBeginning member backs passes highestPassing
+all-hold = refl

@@ -1,0 +1,2 @@
+-- 01's twelve cases as one table. Assumes nothing.
+pub mod Table

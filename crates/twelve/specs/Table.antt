@@ -1,0 +1,165 @@
+-- 01's twelve cases as the rows of one table, each with its expected value, and one test over the definitions that the promises cite.
+-- Assumes nothing.
+use mathlib.Core.List.{List, [], _∷_, _++_, map}
+use mathlib.Core.Bool.{Bool, true, false, _&&_, Bool·beq}
+use Prim.Native.Nat.{ℕ, suc, _-_}
+use lib.Dec.{eqb}
+use lib.ListN.{length, replicate}
+use Rattle.clock.specs.declared.Time.{Time}
+use Rattle.clock.specs.declared.Ticked.{Ticked}
+use Rattle.clock.specs.declared.Ticked.the-variants.{To, AtLimit}
+use Rattle.clock.specs.Times.{isBefore, sameTime, tickOf}
+use Rattle.log.specs.declared.Entry.{Entry}
+use Rattle.log.specs.declared.Log.{Log}
+use Rattle.log.specs.Entries.{zeroEntry, lastTerm, appliedTime, commonBeginning}
+use Rattle.log.specs.Logs.{logLimit, emptyLog, live}
+use Rattle.cluster.specs.declared.Server.{Server}
+use Rattle.cluster.specs.declared.Cluster.{Cluster}
+use Rattle.cluster.specs.Servers.{mostServers, zeroServer, serverAt}
+use Rattle.cluster.specs.Sets.{isMajority}
+use Rattle.steps.specs.Refusals.{Rules, decided, refusalNumber}
+use Rattle.pairs.specs.Pulls.{pullRules}
+use Rattle.pairs.specs.RollsBack.{rollRules}
+use Rattle.singles.specs.Writes.{writeRules}
+use Rattle.wholes.specs.Advances.{highestPassing}
+
+-- a time as 01 prints it, (p, l); a log as the list of its entries' terms; a server as its term and its log
+abbrev pub Pair : Type 0
+Pair = ℕ × ℕ
+
+abbrev pub Terms : Type 0
+Terms = List ℕ
+
+abbrev pub Holder : Type 0
+Holder = ℕ × Terms
+
+-- the sorts of cases; the last argument is what is expected, and an expected refusal is its number, 0 where the step is done
+pub data Row : Type 0 where
+  -- whether the set of a mask is a majority of so many servers
+  majority : ℕ → ℕ → Bool → Row
+  -- whether the first time is before the second
+  before : Pair → Pair → Bool → Row
+  -- the time after a tick from a time at a wall clock
+  tick : Pair → ℕ → Pair → Row
+  -- the refusal of a write, by a primary of this cluster time and wall clock that nothing else keeps from writing
+  write : Pair → ℕ → ℕ → Row
+  -- how many entries two logs share
+  share : Terms → Terms → ℕ → Row
+  -- the refusal of a pull, by a secondary of the first log from a server of the second
+  pull : Terms → Terms → ℕ → Row
+  -- the refusal of a rollback, likewise
+  rollBack : Terms → Terms → ℕ → Row
+  -- the highest position that passes at this primary among these others, 0 if none does
+  passing : Holder → List Holder → ℕ → Row
+  -- a case of two halves
+  both : Row → Row → Row
+
+abbrev pub timeOf : Pair → Time
+timeOf t = record { p = t .0; l = t .1 }
+
+-- same term and position mean equal entries: all else of an entry comes from its position n
+abbrev pub entriesFrom : ℕ → Terms → List Entry
+entriesFrom n [] = []
+entriesFrom n (t ∷ ts) = record { term = t; key = 0; value = 1; time = timeOf (n, 0) } ∷ entriesFrom (suc n) ts
+
+abbrev pub logOf : Terms → Log
+logOf ts = record { entries = entriesFrom 1 ts ++ replicate (logLimit - length ts) zeroEntry; len = length ts }
+
+-- a server of this term, role and log, that has committed nothing
+abbrev pub serverOf : ℕ → Bool → Terms → Server
+serverOf term primary ts =
+    record { log = logOf ts; term = term; primary = primary; commit = 0; wall = 1; time = appliedTime (live (logOf ts)) }
+
+-- a secondary that has seen no term past its log's
+abbrev pub secondaryOf : Terms → Server
+secondaryOf ts = serverOf (lastTerm (live (logOf ts))) false ts
+
+abbrev pub writerOf : Time → ℕ → Server
+writerOf t wall = record { log = emptyLog; term = 1; primary = true; commit = 0; wall = wall; time = t }
+
+-- the servers of a cluster, and zero past the count
+abbrev pub clusterOf : List Server → Cluster
+clusterOf ss = record { count = length ss; servers = ss ++ replicate (mostServers - length ss) zeroServer }
+
+-- server 0 is the primary
+abbrev pub ledBy : Holder → List Holder → Cluster
+ledBy h hs = clusterOf (serverOf (h .0) true (h .1) ∷ map (λ o. serverOf (o .0) false (o .1)) hs)
+
+abbrev pub ticksTo : Ticked → Time → Bool
+ticksTo (To s) t = sameTime s t
+ticksTo AtLimit t = false
+
+-- the number of the refusal, 0 where no rule is broken
+abbrev pub verdict : Rules → ℕ
+verdict rules = decided refusalNumber 0 rules
+
+-- what is expected is what the definitions give
+unfoldable pub holds : Row → Bool
+holds (majority m n b) = Bool·beq (isMajority m n) b
+holds (before s t b) = Bool·beq (isBefore (timeOf s) (timeOf t)) b
+holds (tick t wall u) = ticksTo (tickOf wall (timeOf t)) (timeOf u)
+holds (write t wall n) = eqb (verdict (writeRules (writerOf (timeOf t) wall) 0 1)) n
+holds (share xs ys n) = eqb (commonBeginning (live (logOf xs)) (live (logOf ys))) n
+holds (pull xs ys n) = eqb (verdict (pullRules (secondaryOf xs) (secondaryOf ys))) n
+holds (rollBack xs ys n) = eqb (verdict (rollRules (secondaryOf xs) (secondaryOf ys))) n
+holds (passing h hs n) = eqb (highestPassing (ledBy h hs) (serverAt (ledBy h hs) 0)) n
+holds (both r s) = holds r && holds s
+
+-- every row passes a test
+abbrev pub all : (Row → Bool) → List Row → Bool
+all p [] = true
+all p (r ∷ rs) = p r && all p rs
+
+-- (1) set {0,1} of 3 is a majority
+abbrev pub twoOfThree : Row
+twoOfThree = majority 3 3 true
+
+-- (2) of 4 it is not
+abbrev pub twoOfFour : Row
+twoOfFour = majority 3 4 false
+
+-- (3) {0} of 2 is not
+abbrev pub oneOfTwo : Row
+oneOfTwo = majority 1 2 false
+
+-- (4) (1,9) is before (2,0)
+abbrev pub orderedByP : Row
+orderedByP = before (1, 9) (2, 0) true
+
+-- (5) tick (0,0) at clock 1 gives (1,0)
+abbrev pub firstTick : Row
+firstTick = tick (0, 0) 1 (1, 0)
+
+-- (6) tick (3,4) at clock 2 gives (3,5)
+abbrev pub tickAheadOfTheClock : Row
+tickAheadOfTheClock = tick (3, 4) 2 (3, 5)
+
+-- (7) tick (1,65535) at clock 2 gives (2,0)
+abbrev pub tickToTheClock : Row
+tickToTheClock = tick (1, 65535) 2 (2, 0)
+
+-- (8) tick (2,65535) at clock 2 is refusal 7
+abbrev pub tickAtTheLimit : Row
+tickAtTheLimit = write (2, 65535) 2 7
+
+-- (9) [1,1,2] and [1,1,3,3] share 2
+abbrev pub sharedBeginning : Row
+sharedBeginning = share (1 ∷ 1 ∷ 2 ∷ []) (1 ∷ 1 ∷ 3 ∷ 3 ∷ []) 2
+
+-- (10) [1] pulls from [1,2], and [2] can't pull from [1,3]
+abbrev pub pulls : Row
+pulls = both (pull (1 ∷ []) (1 ∷ 2 ∷ []) 0) (pull (2 ∷ []) (1 ∷ 3 ∷ []) 5)
+
+-- (11) [1,2] rolls back to [1,3], and [1] doesn't
+abbrev pub rollsBack : Row
+rollsBack = both (rollBack (1 ∷ 2 ∷ []) (1 ∷ 3 ∷ []) 0) (rollBack (1 ∷ []) (1 ∷ 3 ∷ []) 5)
+
+-- (12) a primary of term 4 with [1,2,4] in a cluster of 5, where two others of term 4 hold [1,2] and nobody else holds position 3:
+-- nothing passes
+abbrev pub nothingPasses : Row
+nothingPasses = passing (4, 1 ∷ 2 ∷ 4 ∷ []) ((4, 1 ∷ 2 ∷ []) ∷ (4, 1 ∷ 2 ∷ []) ∷ (3, 1 ∷ []) ∷ (3, []) ∷ []) 0
+
+abbrev pub table : List Row
+table =
+    twoOfThree ∷ twoOfFour ∷ oneOfTwo ∷ orderedByP ∷ firstTick ∷ tickAheadOfTheClock ∷ tickToTheClock ∷ tickAtTheLimit
+    ∷ sharedBeginning ∷ pulls ∷ rollsBack ∷ nothingPasses ∷ []
