@@ -7,3 +7,4 @@ pub mod Highest
 pub mod Greatest
 pub mod Each
 pub mod Joined
+pub mod Results

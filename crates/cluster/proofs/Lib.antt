@@ -3,3 +3,4 @@ pub mod Masks
 pub mod Changed
 pub mod Good
 pub mod Fresh
+pub mod Results

@@ -5,12 +5,14 @@ ghost use Rattle.clock.specs.Ranges.{FitsTime};
 ghost use Rattle.log.specs.Ranges.{FitsEntry, FitsLog};
 ghost use Rattle.cluster.specs.Ranges.{FitsServer, Fits};
 ghost use Rattle.steps.specs.Ranges.{FitsStep};
+ghost use Rattle.frames.specs.Ranges.{FitsTelling};
 use clock::Time;
 use cluster::Cluster;
 use cluster::Server;
 use log::Entry;
 use log::Log;
 use steps::Step;
+use steps::Telling;
 
 pub fn time_fits(t: Time) -> bool
     ensures { λ r. ⌜ r ≡ true ⌝ }
@@ -64,6 +66,13 @@ pub fn record_fits(c: Cluster) -> bool
 pub fn step_fits(s: Step) -> bool
     ensures { λ r. ⌜ r ≡ true ⌝ }
     ensures { λ r. ⌜ FitsStep s ⌝ }
+{
+    true
+}
+
+pub fn telling_fits(t: Telling) -> bool
+    ensures { λ r. ⌜ r ≡ true ⌝ }
+    ensures { λ r. ⌜ FitsTelling t ⌝ }
 {
     true
 }

@@ -9,3 +9,4 @@ pub mod Bytes
 pub mod StepFrames
 pub mod Steps
 pub mod Answers
+pub mod Results

@@ -7,3 +7,4 @@ pub mod Placed
 pub mod Tidy
 pub mod Positions
 pub mod Orderly
+pub mod Results

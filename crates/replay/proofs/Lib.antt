@@ -4,3 +4,4 @@ pub mod Along
 pub mod Planned
 pub mod Held
 pub mod Ends
+pub mod Results

@@ -8,3 +8,6 @@ pub mod Servers
 pub mod Records
 pub mod Keeps
 pub mod Parts
+pub mod Results
+pub mod Shut
+pub mod Lowest

@@ -14,6 +14,8 @@ use Rattle.replay.proofs.Whole.{within}
 abbrev pub rest : List ℕ → ℕ → List ℕ
 rest text at = take (length text - at) (drop at text)
 
+pub length-rest : (text : List ℕ) (at : ℕ) → length (rest text at) ≡ length text - at
+length-rest text at = length-take-le (length text - at) (drop at text) (omega (arith, length-drop at text))
+
 pub taken-within : (s : Session) (text : List ℕ) (at room : ℕ) (r : Fed) → at ≤ length text → r ≡ fedOf s (rest text at) room → at + r .taken ≤ length text
-taken-within s text at room r h e =
-    omega (arith, within s (rest text at) room r e .taken, length-take-le (length text - at) (drop at text) (omega (arith, length-drop at text)))
+taken-within s text at room r h e = omega (arith, within s (rest text at) room r e .taken, length-rest text at)

@@ -1,0 +1,66 @@
+-- `cases::compare::same_record` is safe and ends. Assumes nothing.
+use Prim.Native.Nat.{_≤_, _-_}
+use borrow.Author.Needs.{needs}
+use Rattle.cases.proofs.compare.same_record.Statement.{statement}
+use Rattle.cases.proofs.compare.same_record.Tie as tie
+
+abbrev Inv-loop : tie.InvT-loop
+Inv-loop c d i₀ i = i ≤ 7
+
+abbrev μ-loop : tie.MeasureT-loop
+μ-loop c d i₀ i = 7 - i
+
+returns : tie.Need-returns Inv-loop μ-loop
+returns c = search needs
+
+loop-holds : tie.Need-loop-holds Inv-loop μ-loop
+loop-holds c = search needs
+
+mul-s : tie.Need-mul-s Inv-loop μ-loop
+mul-s c = search needs
+
+element-copy-out-s : tie.Need-element-copy-out-s Inv-loop μ-loop
+element-copy-out-s c = search needs
+
+mul-t : tie.Need-mul-t Inv-loop μ-loop
+mul-t c = search needs
+
+element-copy-out-t : tie.Need-element-copy-out-t Inv-loop μ-loop
+element-copy-out-t c = search needs
+
+same-server-requires : tie.Need-same-server-requires Inv-loop μ-loop
+same-server-requires c κs = search needs
+
+returns-2 : tie.Need-returns-2 Inv-loop μ-loop
+returns-2 c = search needs
+
+add-i : tie.Need-add-i Inv-loop μ-loop
+add-i c = search needs
+
+loop-less : tie.Need-loop-less Inv-loop μ-loop
+loop-less c = search needs
+
+loop-again : tie.Need-loop-again Inv-loop μ-loop
+loop-again c = search needs
+
+returns-3 : tie.Need-returns-3 Inv-loop μ-loop
+returns-3 c = search needs
+
+pub same-record-spec : {M : Type 1} → statement M
+same-record-spec =
+    tie.close
+    (tie.spec
+    Inv-loop
+    μ-loop
+    returns
+    loop-holds
+    mul-s
+    element-copy-out-s
+    mul-t
+    element-copy-out-t
+    same-server-requires
+    returns-2
+    add-i
+    loop-less
+    loop-again
+    returns-3)

@@ -1,0 +1,2 @@
+-- The law about this room's promises. Assumes nothing.
+pub mod Results

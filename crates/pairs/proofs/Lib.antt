@@ -1,0 +1,2 @@
+-- Laws of the kinds that take from another server. Assumes nothing.
+pub mod Results

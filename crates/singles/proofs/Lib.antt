@@ -1,0 +1,2 @@
+-- Laws of the kinds of one server. Assumes nothing.
+pub mod Results
