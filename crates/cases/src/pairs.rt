@@ -105,45 +105,50 @@ fn differences() {
     differing(entry(1, 3, 9, 2, 0), e);
 }
 
-// Two primaries of one term: they don't put each other down, and an equal entry of both is a majority of two.
+// Two primaries of one term with different entries: they don't put each other down.
 fn two_primaries() {
     let d = entry(1, 0, 1, 1, 0);
     let e = entry(1, 0, 2, 1, 0);
-    let apart = of(primary(one(d), 1, 0), primary(one(e), 1, 0));
+    let c = of(primary(one(d), 1, 0), primary(one(e), 1, 0));
     case(
         b"kind 3, two primaries of one term:",
-        apart,
+        c,
         Step::Hears(0, 1),
         1,
     );
     case(
         b"kind 7, two primaries of one term, different entries:",
-        apart,
+        c,
         Step::Advances(0),
         1,
     );
-    let agreed = of(primary(one(d), 1, 0), at_time(primary(one(d), 1, 0), 9, 9));
+}
+
+// With an equal entry, both are a majority of two; and either can be elected.
+fn agreed_primaries() {
+    let s = primary(one(entry(1, 0, 1, 1, 0)), 1, 0);
+    let c = of(s, at_time(s, 9, 9));
     case(
         b"kind 7, two primaries of one term, equal entries:",
-        agreed,
+        c,
         Step::Advances(0),
         1,
     );
     case(
         b"kind 6, two primaries of one term:",
-        agreed,
+        c,
         Step::Writes(0, 15, 65535),
         2,
     );
     case(
         b"kind 1, server 0 of two primaries of one term:",
-        agreed,
+        c,
         Step::Elect(0, 3),
         1,
     );
     case(
         b"kind 1, server 1 of two primaries of one term:",
-        agreed,
+        c,
         Step::Elect(1, 3),
         1,
     );
@@ -155,4 +160,5 @@ pub(crate) fn run() {
     equal_above();
     differences();
     two_primaries();
+    agreed_primaries();
 }

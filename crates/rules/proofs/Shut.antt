@@ -117,9 +117,9 @@ unvarying-differs p t h = go t refl
     go (T.Numbers n term time) is = number (eqb n 41) n term time refl is
     go (T.Refusing r) is = at-written (λ e. let z : _≡_ {A = ℕ} 0 1 = cc in omega arith)
 
--- one that only echoes from some well-formed record on, whatever it did before
+-- one that leaves every well-formed record as it is, whatever it does with others: the election changes the fresh cluster
 pub echoing-differs : (p : Program) → ((c : Cluster) (s : Step) → wellFormed c ≡ true → p c s .cluster ≡ c) → Differs p
-echoing-differs p h = record { from = fresh; takes = election; apart = λ e. same e }
+echoing-differs p h = record { from = fresh; takes = election; apart = same }
   where
     same : p fresh election ≡ stepOf fresh election → ⊥
     same e =
@@ -129,28 +129,28 @@ echoing-differs p h = record { from = fresh; takes = election; apart = λ e. sam
 
 -- ---- the four programs
 
-abbrev refusesEach : Refusal → Program
+abbrev pub refusesEach : Refusal → Program
 refusesEach r c s = refusingAll c r
 
 pub refuses-each : (r : Refusal) → Differs (refusesEach r)
 refuses-each r = refusing-differs (refusesEach r) (λ c s. refl)
 
 -- its records are right
-abbrev saysOne : Answer → Program
+abbrev pub saysOne : Answer → Program
 saysOne a c s = record { cluster = stepOf c s .cluster; answer = a }
 
 pub says-one : (a : Answer) → Differs (saysOne a)
 says-one a = unvarying-differs (saysOne a) (tellingOf a) (λ c s. refl)
 
 -- its answers are right
-abbrev leavesAll : Program
+abbrev pub leavesAll : Program
 leavesAll c s = record { cluster = c; answer = stepOf c s .answer }
 
 pub leaves-all : Differs leavesAll
 leaves-all = echoing-differs leavesAll (λ c s w. refl)
 
 -- it performs the first step, on the record that is all zero, and echoes from then on
-abbrev echoesLater : Program
+abbrev pub echoesLater : Program
 echoesLater c s = cond (eqb (c .count) 0) (stepOf c s) (record { cluster = c; answer = A.Done })
 
 -- a well-formed record has a count of at least 2
