@@ -7,7 +7,7 @@ use Prim.Native.Nat.{ℕ, suc, _+_, _-_, _<_, _≤_}
 use native.Mathlib.Numerals.{add-one}
 use native.Mathlib.Omega.{arith}
 use lib.ListN.{length, getD, take, drop, set, replicate, length-take, length-append, length-replicate, getD-replicate, length-set, List·getD-eq-default, List·getD-append}
-use lib.Seq.{take-at, getD-append-add, getD-set-same, getD-set-other, take-suc-set, take-append-le, ext-getD, getD-take}
+use lib.Seq.{getD-append-add, getD-set-same, getD-set-other, take-suc-set, take-append-le, ext-getD, getD-take}
 use borrow.Author.Tests.{lt-ltb}
 use Rattle.base.specs.Lists.{joinedAt}
 use Rattle.base.proofs.Facts.{lt-or-le}
@@ -29,9 +29,6 @@ tidy-length {g} t = omega (arith, length-take (g .len) (g .entries), t .slots, t
 -- the log of a list of entries
 abbrev pub logOf : List Entry → Log
 logOf es = record { entries = es ++ replicate (logLimit - length es) zeroEntry; len = length es }
-
-pub live-logOf : (es : List Entry) → live (logOf es) ≡ es
-live-logOf es = take-at es _ (length es) refl
 
 -- past the list, what is filled up is zero
 filled : (es : List Entry) (m i : ℕ) → length es ≤ i → getD (es ++ replicate m zeroEntry) i zeroEntry ≡ zeroEntry

@@ -86,12 +86,6 @@ more {s} {text} {out₀} {out} {d} {w} {i} e xs out′ a h r p q l o =
         ∙ ap (λ (k : ℕ). suc (taking e (drop (suc i) text) k)) rest
         ∙ ap (λ (k : ℕ). suc (taking e (drop k text) (length out₀ - (w + length xs)))) (sym (add-one i))
 
-pub moved : {s : Session} {text out₀ out out′ : List ℕ} {d d′ : Session} {w w′ i : ℕ} → out′ ≡ out → d′ ≡ d → w′ ≡ w → Along s text out₀ out d w i
-    → Along s text out₀ out′ d′ w′ i
-moved {s} {text} {out₀} {out} {out′} {d} {d′} {w} {w′} {i} p q r a =
-    subst (λ (x : List ℕ). Along s text out₀ x d′ w′ i) (sym p)
-    (subst (λ (x : Session). Along s text out₀ out x w′ i) (sym q) (subst (λ (x : ℕ). Along s text out₀ out d x i) (sym r) a))
-
 pub parts : {c c′ : Cluster} {l l′ : Reader} → c′ ≡ c → l′ ≡ l → _≡_ {A = Session} (record { cluster = c′; reader = l′ }) (record { cluster = c; reader = l })
 parts p q = cc
 

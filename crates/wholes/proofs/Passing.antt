@@ -6,7 +6,7 @@ use native.Mathlib.Omega.{arith}
 use lib.Dec.{eqb, ltb}
 use borrow.Author.Tests.{eq-eqb, ne-eqb, le-leb, lt-ltb, le-ltb}
 use Rattle.base.proofs.Bools.{and-no}
-use Rattle.base.proofs.Highest.{highest-le, highest-passes, highest-above}
+use Rattle.base.proofs.Highest.{highest-passes, highest-above}
 use Rattle.log.specs.declared.Entry.{Entry}
 use Rattle.log.specs.Entries.{entryAt}
 use Rattle.log.specs.Logs.{live, lengthOf}
@@ -25,10 +25,6 @@ module _ (c : Cluster) (s : Server) where
   pub passing-highest : (n : ℕ) → highestPassing c s < n → n ≤ lengthOf (s .log) → passes c s n ≡ false
   unfolding highestPassing
   passing-highest n h l = highest-above (passes c s) (lengthOf (s .log)) n h l
-
-  pub passing-le : highestPassing c s ≤ lengthOf (s .log)
-  unfolding highestPassing
-  passing-le = highest-le (passes c s) (lengthOf (s .log))
 
 -- ---- the loop
 

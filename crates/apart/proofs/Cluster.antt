@@ -1,0 +1,129 @@
+-- What the cluster's definitions give where a wrong program differs. Assumes nothing.
+use mathlib.Core.Path.{_≡_, refl}
+use mathlib.Core.Bool.{true, false}
+use mathlib.Core.List.{[], _∷_}
+use Prim.Native.Nat.{min}
+use lib.ListN.{replicate}
+use Rattle.base.specs.Numbers.{every, count}
+use Rattle.base.specs.Lists.{eachFrom}
+use Rattle.clock.specs.Times.{zeroTime, isBefore, sameTime}
+use Rattle.log.specs.Entries.{sameEntry, entryAt}
+use Rattle.log.specs.Order.{entryOk, follows, placeOk, inOrder, restZero, logOk}
+use Rattle.cluster.specs.Servers.{mostServers, zeroServer, freshServer, zeroCluster, startedOf, freshCluster, serverAt, withServer, votedOf, electedAll, clockedOf, clocksSet}
+use Rattle.cluster.specs.Sets.{member, membersOf, isWithin, isMajority}
+use Rattle.cluster.specs.WellFormed.{numbersOk, countedOk, zeroOk, serverOk, wellFormed}
+use Rattle.apart.proofs.Things.{at, x, server, holder, leader, clocked, timed, two, F2}
+
+pub fresh-server-with-wall-clock-0 : freshServer .wall ≡ 1
+fresh-server-with-wall-clock-0 = refl
+
+pub zero-record-of-count-2 : zeroCluster .count ≡ 0
+zero-record-of-count-2 = refl
+
+pub count-as-it-stands : min 255 mostServers ≡ 7
+count-as-it-stands = refl
+
+pub count-is-7 : min 2 mostServers ≡ 2
+count-is-7 = refl
+
+pub started-past-the-count : startedOf 2 2 zeroServer ≡ zeroServer
+unfolding startedOf
+started-past-the-count = refl
+
+pub started-keeps-a-counted-server : startedOf 2 0 (leader []) ≡ freshServer
+unfolding startedOf
+started-keeps-a-counted-server = refl
+
+pub fresh-one-server-too-many : serverAt (freshCluster 2) 2 ≡ zeroServer
+unfolding eachFrom startedOf
+fresh-one-server-too-many = refl
+
+pub fresh-leaves-the-count : freshCluster 2 .count ≡ 2
+fresh-leaves-the-count = refl
+
+pub with-server-replaces-0 : serverAt (withServer F2 1 zeroServer) 0 ≡ freshServer
+unfolding eachFrom startedOf
+with-server-replaces-0 = refl
+
+pub with-server-raises-the-count : withServer F2 2 freshServer .count ≡ 2
+with-server-raises-the-count = refl
+
+pub voted-gives-everybody-the-term : votedOf 0 1 1 1 freshServer .term ≡ 0
+unfolding member votedOf
+voted-gives-everybody-the-term = refl
+
+pub elect-changes-a-alone : serverAt (electedAll F2 0 3 1) 1 .term ≡ 1
+unfolding eachFrom startedOf member votedOf
+elect-changes-a-alone = refl
+
+pub elect-takes-commit-points : serverAt (electedAll (two (server 0 false 1 1 zeroTime []) freshServer) 0 1 2) 0 .commit ≡ 1
+unfolding eachFrom member votedOf
+elect-takes-commit-points = refl
+
+pub clocked-keeps-a-later-clock : clockedOf 2 3 0 (clocked 5) .wall ≡ 3
+unfolding clockedOf
+clocked-keeps-a-later-clock = refl
+
+pub clocks-sets-0-alone : serverAt (clocksSet F2 5) 1 .wall ≡ 5
+unfolding eachFrom startedOf clockedOf
+clocks-sets-0-alone = refl
+
+pub clocks-sets-all-seven : serverAt (clocksSet F2 5) 2 .wall ≡ 0
+unfolding eachFrom startedOf clockedOf
+clocks-sets-all-seven = refl
+
+pub counted-without-the-time : countedOk (holder 1 (x ∷ [])) ≡ false
+unfolding every isBefore sameTime sameEntry entryAt entryOk follows placeOk inOrder restZero logOk countedOk
+counted-without-the-time = refl
+
+pub counted-wants-the-last-time : countedOk (timed (at 5 3)) ≡ true
+unfolding every isBefore sameTime sameEntry entryAt inOrder restZero logOk numbersOk countedOk
+counted-wants-the-last-time = refl
+
+pub zero-without-the-time : zeroOk (server 0 false 0 0 (at 0 1) []) ≡ false
+unfolding every sameTime sameEntry restZero zeroOk
+zero-without-the-time = refl
+
+pub server-ok-exchanges-the-cases : serverOk true freshServer ≡ true
+unfolding every isBefore sameTime sameEntry entryAt inOrder restZero logOk numbersOk countedOk serverOk
+server-ok-exchanges-the-cases = refl
+
+pub server-ok-counts-every-server : serverOk false freshServer ≡ false
+unfolding every sameTime sameEntry restZero zeroOk serverOk
+server-ok-counts-every-server = refl
+
+pub well-formed-of-count-8 : wellFormed (record { count = 8; servers = replicate 7 freshServer }) ≡ false
+unfolding wellFormed
+well-formed-of-count-8 = refl
+
+pub well-formed-by-counted-servers : wellFormed (withServer F2 2 freshServer) ≡ false
+unfolding every eachFrom isBefore sameTime sameEntry entryAt inOrder restZero logOk startedOf numbersOk countedOk zeroOk serverOk wellFormed
+well-formed-by-counted-servers = refl
+
+pub member-from-the-top : member 1 0 ≡ true
+unfolding member
+member-from-the-top = refl
+
+pub member-goes-round : member 1 8 ≡ false
+unfolding member
+member-goes-round = refl
+
+pub members-gives-the-mask : membersOf 4 ≡ 1
+unfolding count member
+members-gives-the-mask = refl
+
+pub members-of-seven-bits : membersOf 128 ≡ 1
+unfolding count member
+members-of-seven-bits = refl
+
+pub within-takes-the-first-past : isWithin 4 2 ≡ false
+unfolding every member isWithin
+within-takes-the-first-past = refl
+
+pub within-by-the-lowest-alone : isWithin 5 2 ≡ false
+unfolding every member isWithin
+within-by-the-lowest-alone = refl
+
+pub majority-wants-everybody : isMajority 3 3 ≡ true
+unfolding count member
+majority-wants-everybody = refl

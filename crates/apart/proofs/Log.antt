@@ -1,0 +1,134 @@
+-- What the log's definitions give where a wrong program differs. Assumes nothing.
+use mathlib.Core.Path.{_≡_, refl}
+use mathlib.Core.Bool.{true, false}
+use mathlib.Core.List.{List, [], _∷_, _++_}
+use Prim.Native.Nat.{ℕ, zero, suc}
+use lib.ListN.{take, replicate}
+use Rattle.base.specs.Numbers.{every, highest}
+use Rattle.clock.specs.Times.{isBefore, sameTime}
+use Rattle.log.specs.declared.Entry.{Entry}
+use Rattle.log.specs.declared.Log.{Log}
+use Rattle.log.specs.Entries.{zeroEntry, sameEntry, entryAt, lastTerm, appliedTime, equalAt, commonBeginning, isBeginning, latestValue}
+use Rattle.log.specs.Logs.{emptyLog, live, lengthOf, appended, joined}
+use Rattle.log.specs.Order.{entryOk, follows, placeOk, inOrder, restZero, logOk}
+use Rattle.apart.proofs.Things.{at, entry, x, y, z, log}
+
+pub zero-entry-of-value-1 : zeroEntry .value ≡ 0
+zero-entry-of-value-1 = refl
+
+pub empty-log-of-length-1 : emptyLog .len ≡ 0
+empty-log-of-length-1 = refl
+
+pub same-leaves-out-the-time : sameEntry x (entry 1 5 41 (at 1 1)) ≡ false
+unfolding sameTime sameEntry
+same-leaves-out-the-time = refl
+
+pub length-as-it-stands : lengthOf (record { entries = replicate 32 zeroEntry; len = 33 }) ≡ 32
+length-as-it-stands = refl
+
+pub length-is-32 : lengthOf emptyLog ≡ 0
+length-is-32 = refl
+
+pub entry-counts-from-0 : entryAt (live (log (x ∷ []))) 1 ≡ x
+unfolding entryAt
+entry-counts-from-0 = refl
+
+pub entry-past-the-length : entryAt (live (record { entries = x ∷ replicate 31 zeroEntry; len = 0 })) 1 ≡ zeroEntry
+unfolding entryAt
+entry-past-the-length = refl
+
+pub last-term-of-another-slot : lastTerm (live (log (x ∷ entry 2 5 42 (at 2 0) ∷ []))) ≡ 2
+unfolding entryAt
+last-term-of-another-slot = refl
+
+pub time-one-further : entryAt (live (log (x ∷ z ∷ []))) 1 .time ≡ at 1 0
+unfolding entryAt
+time-one-further = refl
+
+pub time-of-the-last : entryAt (live (log (x ∷ z ∷ []))) 0 .time ≡ at 0 0
+unfolding entryAt
+time-of-the-last = refl
+
+pub applied-time-of-another-slot : appliedTime (live (log (x ∷ z ∷ []))) ≡ at 2 0
+unfolding entryAt
+applied-time-of-another-slot = refl
+
+pub equal-where-both-are-missing : equalAt (live emptyLog) (live emptyLog) 1 ≡ false
+unfolding entryAt equalAt
+equal-where-both-are-missing = refl
+
+pub equal-by-lengths-alone : equalAt (live (log (x ∷ []))) (live (log (y ∷ []))) 1 ≡ false
+unfolding sameTime sameEntry entryAt equalAt
+equal-by-lengths-alone = refl
+
+pub common-counts-equal-positions : commonBeginning (live (log (x ∷ z ∷ []))) (live (log (y ∷ z ∷ []))) ≡ 0
+unfolding sameTime sameEntry commonBeginning
+common-counts-equal-positions = refl
+
+pub beginning-the-other-way-round : isBeginning (live (log (x ∷ []))) (live emptyLog) ≡ false
+unfolding commonBeginning
+beginning-the-other-way-round = refl
+
+pub beginning-wants-equal-logs : isBeginning (live emptyLog) (live (log (x ∷ []))) ≡ true
+unfolding commonBeginning
+beginning-wants-equal-logs = refl
+
+pub append-over-the-last-slot : appended (log (replicate 32 x)) y ≡ log (replicate 32 x)
+unfolding appended
+append-over-the-last-slot = refl
+
+pub append-leaves-the-length : appended emptyLog x .len ≡ 1
+unfolding appended
+append-leaves-the-length = refl
+
+pub join-gives-b : joined (log (x ∷ [])) (log (y ∷ z ∷ [])) 1 ≡ log (x ∷ z ∷ [])
+join-gives-b = refl
+
+pub join-keeps-the-length : joined (log (x ∷ [])) (log (y ∷ z ∷ [])) 1 .len ≡ 2
+join-keeps-the-length = refl
+
+pub value-past-n : latestValue 5 (take 1 (live (log (x ∷ z ∷ [])))) ≡ 41
+unfolding highest entryAt latestValue
+value-past-n = refl
+
+pub entry-ok-of-key-16 : entryOk 1 (entry 1 16 1 (at 1 0)) ≡ false
+unfolding entryOk
+entry-ok-of-key-16 = refl
+
+pub entry-ok-above-the-term : entryOk 1 (entry 2 5 1 (at 1 0)) ≡ false
+unfolding entryOk
+entry-ok-above-the-term = refl
+
+pub in-order-over-all-slots : inOrder 0 (live emptyLog) ≡ true
+unfolding every inOrder
+in-order-over-all-slots = refl
+
+pub in-order-by-the-first-alone : inOrder 2 (live (log (entry 2 5 1 (at 1 0) ∷ entry 1 5 1 (at 2 0) ∷ []))) ≡ false
+unfolding every isBefore entryAt entryOk follows placeOk inOrder
+in-order-by-the-first-alone = refl
+
+-- the empty log with value 1 in slot 32
+abbrev dirty : Log
+dirty = record { entries = replicate 31 zeroEntry ++ (entry 0 0 1 (at 0 0) ∷ []); len = 0 }
+
+pub rest-by-terms-alone : restZero dirty 0 ≡ false
+unfolding every sameTime sameEntry restZero
+rest-by-terms-alone = refl
+
+-- k good entries, at the times from (n,0)
+abbrev good : ℕ → ℕ → List Entry
+good n zero = []
+good n (suc k) = entry 1 5 41 (at n 0) ∷ good (suc n) k
+
+pub log-ok-without-the-length : logOk 1 (record { entries = good 1 32; len = 33 }) ≡ false
+unfolding logOk
+log-ok-without-the-length = refl
+
+-- all else about that log is good
+pub log-ok-but-for-the-length : logOk 1 (record { entries = good 1 32; len = 32 }) ≡ true
+unfolding every isBefore sameTime sameEntry entryAt entryOk follows placeOk inOrder restZero logOk
+log-ok-but-for-the-length = refl
+
+pub log-ok-without-the-slots : logOk 0 dirty ≡ false
+unfolding every sameTime sameEntry restZero logOk
+log-ok-without-the-slots = refl

@@ -1,0 +1,50 @@
+-- What the definitions of kinds 3, 4 and 5 give where a wrong program differs. Assumes nothing.
+use mathlib.Core.Path.{_≡_, refl}
+use mathlib.Core.Bool.{true, false}
+use mathlib.Core.List.{[], _∷_}
+use Prim.Native.Nat.{max}
+use Rattle.clock.specs.Times.{zeroTime, isBefore, sameTime, laterOf}
+use Rattle.log.specs.Entries.{sameEntry, entryAt, equalAt}
+use Rattle.log.specs.Logs.{emptyLog}
+use Rattle.cluster.specs.Servers.{freshServer}
+use Rattle.steps.specs.declared.Answer.the-variants.{Refused}
+use Rattle.steps.specs.declared.Refusal.the-variants.{ConditionUnmet}
+use Rattle.pairs.specs.Hears.{takesCommit, staysPrimary, heardOf, hearsOf}
+use Rattle.pairs.specs.Pulls.{mayJoin, tookOf, pullsOf}
+use Rattle.apart.proofs.Things.{at, x, y, z, w, log, server, holder, leader, timed}
+
+pub greater-takes-the-first-or-adds : max 1 2 ≡ 2
+greater-takes-the-first-or-adds = refl
+
+pub takes-a-lower-commit-point : takesCommit (server 1 false 2 1 zeroTime (x ∷ z ∷ [])) (server 1 false 1 1 zeroTime (x ∷ z ∷ [])) ≡ false
+unfolding takesCommit
+takes-a-lower-commit-point = refl
+
+pub stays-makes-a-secondary-primary : staysPrimary freshServer freshServer ≡ false
+stays-makes-a-secondary-primary = refl
+
+pub hears-takes-the-log : hearsOf freshServer (holder 0 (x ∷ [])) .server .log ≡ emptyLog
+unfolding heardOf
+hears-takes-the-log = refl
+
+pub hears-lowers-the-time : hearsOf (timed (at 2 0)) (timed (at 1 0)) .server .time ≡ at 2 0
+unfolding isBefore laterOf heardOf
+hears-lowers-the-time = refl
+
+pub took-takes-the-role : tookOf freshServer (leader []) emptyLog .primary ≡ false
+unfolding tookOf
+took-takes-the-role = refl
+
+pub joins-anywhere : mayJoin (log (x ∷ [])) (log (y ∷ z ∷ [])) 1 ≡ false
+unfolding sameTime sameEntry entryAt equalAt
+joins-anywhere = refl
+
+pub joins-no-empty-log : mayJoin emptyLog (log (x ∷ [])) 0 ≡ true
+joins-no-empty-log = refl
+
+pub pulls-gives-b : pullsOf (holder 1 (x ∷ z ∷ [])) (holder 1 (y ∷ z ∷ w ∷ [])) .server .log ≡ log (x ∷ z ∷ w ∷ [])
+unfolding sameTime sameEntry entryAt equalAt tookOf
+pulls-gives-b = refl
+
+pub pulls-from-no-longer-a-log : pullsOf (holder 1 (x ∷ [])) (holder 1 (x ∷ [])) .answer ≡ Refused ConditionUnmet
+pulls-from-no-longer-a-log = refl

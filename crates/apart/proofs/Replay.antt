@@ -1,0 +1,71 @@
+-- What the definitions of reading a text give where a wrong program differs. Assumes nothing.
+use mathlib.Core.Path.{_≡_, refl}
+use mathlib.Core.Bool.{Bool, true, false}
+use mathlib.Core.List.{List}
+use Prim.Native.Nat.{ℕ}
+use lib.ListN.{replicate}
+use Rattle.cluster.specs.Servers.{zeroCluster}
+use Rattle.cluster.specs.WellFormed.{wellFormed}
+use Rattle.steps.specs.declared.Answer.the-variants.{Refused}
+use Rattle.steps.specs.declared.Refusal.the-variants.{NotAFrame, IllFormed}
+use Rattle.steps.specs.declared.Step.the-variants.{Start, ClocksAgree}
+use Rattle.rules.specs.Rules.{stepOf}
+use Rattle.frames.specs.declared.ReadStep.the-variants as R
+use Rattle.frames.specs.Lines.{framed}
+use Rattle.frames.specs.Steps.{bytesOfFrame, writeStep, readStep}
+use Rattle.replay.specs.declared.Reader.{Reader}
+use Rattle.replay.specs.declared.Plan.the-variants.{Refuse, Record}
+use Rattle.replay.specs.Texts.{respond}
+use Rattle.replay.specs.Pieces.{freshReader, begun, lineHeld, pushOf, isEmpty, finishOf}
+use Rattle.replay.specs.Plans.{placeOf, planOf}
+use Rattle.apart.proofs.Things.{F2}
+
+-- the characters 0 and 1 are 48 and 49
+
+abbrev reader : List ℕ → ℕ → Bool → Reader
+reader held fill over = record { held = held; fill = fill; over = over }
+
+pub begins-with-the-zero-record : begun F2 .cluster ≡ F2
+begins-with-the-zero-record = refl
+
+pub begins-within-a-line : begun F2 .reader .fill ≡ 0
+begins-within-a-line = refl
+
+pub pushed-keeps-the-last-26 : pushOf (reader (replicate 26 48) 26 false) 49 .held ≡ replicate 26 48
+unfolding pushOf
+pushed-keeps-the-last-26 = refl
+
+pub held-reads-a-long-line : readStep (lineHeld (reader (writeStep ClocksAgree) 26 true)) ≡ R.NoFrame
+unfolding framed lineHeld
+held-reads-a-long-line = refl
+
+pub held-fills-a-short-line : readStep (lineHeld (reader (writeStep ClocksAgree) 25 false)) ≡ R.NoFrame
+unfolding bytesOfFrame framed lineHeld
+held-fills-a-short-line = refl
+
+pub plan-gives-2-before-1 : planOf 0 false R.NoFrame ≡ Refuse NotAFrame
+unfolding planOf
+plan-gives-2-before-1 = refl
+
+pub plan-lets-a-start-look : planOf 0 false (R.Step (Start 2)) ≡ Record (Start 2)
+unfolding placeOf planOf
+plan-lets-a-start-look = refl
+
+pub empty-by-the-fill-alone : isEmpty (reader (replicate 26 0) 0 true) ≡ false
+empty-by-the-fill-alone = refl
+
+pub responds-2-to-a-bad-line : respond zeroCluster R.NoFrame .answer ≡ Refused NotAFrame
+unfolding respond
+responds-2-to-a-bad-line = refl
+
+pub responds-without-the-test : respond zeroCluster (R.Step ClocksAgree) .answer ≡ Refused IllFormed
+unfolding wellFormed stepOf respond
+responds-without-the-test = refl
+
+pub finish-answers-an-empty-rest : finishOf (begun F2) 19 .wrote ≡ 0
+unfolding finishOf
+finish-answers-an-empty-rest = refl
+
+pub finish-keeps-the-reader : finishOf (record { cluster = F2; reader = pushOf freshReader 48 }) 19 .session .reader ≡ freshReader
+unfolding pushOf finishOf
+finish-keeps-the-reader = refl

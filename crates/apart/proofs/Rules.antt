@@ -1,0 +1,54 @@
+-- What the definitions of the step's parts give where a wrong program differs. Assumes nothing.
+use mathlib.Core.Path.{_≡_, refl}
+use mathlib.Core.Bool.{true, false}
+use mathlib.Core.List.{[], _∷_}
+use Rattle.base.specs.Numbers.{every, count, highest}
+use Rattle.base.specs.Lists.{eachFrom}
+use Rattle.clock.specs.Times.{isBefore}
+use Rattle.log.specs.Entries.{entryAt, latestValue}
+use Rattle.cluster.specs.declared.Server.{Server}
+use Rattle.cluster.specs.Servers.{zeroCluster, startedOf, serverAt}
+use Rattle.cluster.specs.Sets.{member, isWithin}
+use Rattle.steps.specs.declared.Answer.the-variants as A
+use Rattle.steps.specs.declared.Refusal.the-variants.{OutOfRange}
+use Rattle.steps.specs.declared.Step.the-variants.{Start, Elect, StepDown, WallClock, Restarts, LocalRead, ClocksAgree}
+use Rattle.wholes.specs.Elects.{notBehind, mayVote, allMayVote}
+use Rattle.rules.specs.Rules.{rulesOf, doneOf, coreOf, isStart}
+use Rattle.rules.specs.One.{untouchedOf, oneOf, singleOf}
+use Rattle.apart.proofs.Things.{at, x, holder, leader, F2}
+
+pub untouched-makes-it-secondary : untouchedOf (leader []) .server .primary ≡ true
+untouched-makes-it-secondary = refl
+
+pub untouched-refuses : (s : Server) → untouchedOf s .answer ≡ A.Done
+untouched-refuses s = refl
+
+pub one-does-nothing : oneOf (leader []) (leader []) (StepDown 0) .server .primary ≡ false
+unfolding oneOf
+one-does-nothing = refl
+
+pub one-takes-10-for-11 : oneOf (holder 1 (x ∷ [])) (holder 1 (x ∷ [])) (LocalRead 0 5 (at 0 0)) .answer ≡ A.Value 41 (at 1 0)
+unfolding highest isBefore entryAt latestValue oneOf
+one-takes-10-for-11 = refl
+
+pub single-of-any-number : singleOf F2 2 (Restarts 2) .answer ≡ A.Refused OutOfRange
+unfolding singleOf
+single-of-any-number = refl
+
+pub single-puts-back-at-0 : serverAt (singleOf F2 1 (WallClock 1) .cluster) 0 .wall ≡ 1
+unfolding eachFrom startedOf oneOf singleOf
+single-puts-back-at-0 = refl
+
+pub core-looks-at-the-record : coreOf zeroCluster ClocksAgree .answer ≡ A.Done
+unfolding rulesOf doneOf coreOf
+core-looks-at-the-record = refl
+
+pub core-refuses-every-step : coreOf F2 (Elect 0 3) .answer ≡ A.Elected 1
+unfolding every count eachFrom entryAt startedOf member isWithin notBehind mayVote allMayVote rulesOf doneOf coreOf
+core-refuses-every-step = refl
+
+pub is-start-never : isStart (Start 2) ≡ true
+is-start-never = refl
+
+pub is-start-at-13 : isStart ClocksAgree ≡ false
+is-start-at-13 = refl
