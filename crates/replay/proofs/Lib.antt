@@ -4,4 +4,5 @@ pub mod Along
 pub mod Planned
 pub mod Held
 pub mod Ends
+pub mod Refused
 pub mod Results
