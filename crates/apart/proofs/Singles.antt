@@ -6,9 +6,11 @@ use Rattle.log.specs.Logs.{live, appended}
 use Rattle.cluster.specs.Servers.{freshServer}
 use Rattle.steps.specs.declared.Answer.the-variants.{Refused}
 use Rattle.steps.specs.declared.Refusal.the-variants.{WrongRole, NotYet}
-use Rattle.singles.specs.Roles.{stepsDownOf, wallClockOf, restartsOf}
+use Rattle.singles.specs.StepsDown.{stepsDownOf}
+use Rattle.singles.specs.WallClock.{wallClockOf}
+use Rattle.singles.specs.Restarts.{restartsOf}
 use Rattle.singles.specs.Writes.{wroteOf, writtenOf}
-use Rattle.singles.specs.Reads.{localReadOf}
+use Rattle.singles.specs.LocalRead.{localReadOf}
 use Rattle.apart.proofs.Things.{at, timed}
 
 pub secondary-steps-down : stepsDownOf freshServer .answer ≡ Refused WrongRole

@@ -12,7 +12,8 @@ use Rattle.cluster.specs.Servers.{freshServer, startedOf, freshCluster, serverA
 use Rattle.cluster.specs.Sets.{member, isWithin}
 use Rattle.steps.specs.declared.Answer.the-variants.{Done, Reached, Refused}
 use Rattle.steps.specs.declared.Refusal.the-variants.{OutOfRange, WrongRole, ConditionUnmet}
-use Rattle.wholes.specs.Starts.{startsOf, greatestClock, agreesOf}
+use Rattle.wholes.specs.Starts.{startsOf}
+use Rattle.wholes.specs.ClocksAgree.{greatestClock, agreesOf}
 use Rattle.wholes.specs.Elects.{notBehind, mayVote, voteOk, allMayVote, electsOf}
 use Rattle.wholes.specs.Advances.{backs, passes, highestPassing, advancesOf}
 use Rattle.wholes.specs.Acknowledged.{holders, isAcknowledged, hasEntry, acknowledgedOf}

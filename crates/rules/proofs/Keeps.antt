@@ -28,7 +28,8 @@ use Rattle.steps.specs.Ranges.{byte, FitsStep}
 use Rattle.steps.proofs.Decided.{Clear}
 use Rattle.wholes.specs.Elects.{mayVote, allMayVote, electRules, newTerm}
 use Rattle.wholes.specs.Advances.{passes, highestPassing, advanceDone}
-use Rattle.wholes.specs.Starts.{startRules, greatestClock}
+use Rattle.wholes.specs.Starts.{startRules}
+use Rattle.wholes.specs.ClocksAgree.{greatestClock}
 use Rattle.rules.specs.Rules.{rulesOf, doneOf, isStart, stepOf}
 use Rattle.rules.proofs.Outcomes.{step-done, StepDone, step-cases}
 use Rattle.rules.proofs.Others.{voted-inside, voted-outside, clocked-counted, clocked-past}

@@ -20,7 +20,7 @@ use Rattle.cluster.proofs.Changed.{replaced-others, changed-at}
 use Rattle.steps.specs.declared.Step.{Step}
 use Rattle.steps.specs.declared.Step.the-variants.{Start, Elect, StepDown, Hears, Pulls, RollsBack, Writes, Advances, WallClock, Restarts, LocalRead, MajorityRead, Acknowledged, ClocksAgree}
 use Rattle.wholes.specs.Elects.{newTerm}
-use Rattle.wholes.specs.Starts.{greatestClock}
+use Rattle.wholes.specs.ClocksAgree.{greatestClock}
 use Rattle.rules.specs.Rules.{doneOf, isStart, stepOf}
 use Rattle.rules.proofs.Outcomes.{step-cases}
 

@@ -17,9 +17,11 @@ use Rattle.steps.specs.Answers.{refusing, refusingAll}
 use Rattle.steps.proofs.Decided.{decided-map}
 use Rattle.pairs.specs.Pulls.{pullRules, pullDone}
 use Rattle.pairs.specs.RollsBack.{rollRules, rollDone}
-use Rattle.singles.specs.Roles.{downRules, downDone, clockRules, clockDone}
+use Rattle.singles.specs.StepsDown.{downRules, downDone}
+use Rattle.singles.specs.WallClock.{clockRules, clockDone}
 use Rattle.singles.specs.Writes.{writeRules, writeDone}
-use Rattle.singles.specs.Reads.{localRules, localDone, majorityRules, majorityDone}
+use Rattle.singles.specs.LocalRead.{localRules, localDone}
+use Rattle.singles.specs.MajorityRead.{majorityRules, majorityDone}
 use Rattle.rules.specs.Rules.{apart, putBack, rulesOf, doneOf, coreOf}
 use Rattle.rules.specs.One.{oneOf, singleOf, pairOf}
 use Rattle.rules.proofs.Others.{put-same}

@@ -34,7 +34,8 @@ use Rattle.steps.proofs.Decided.{Clear}
 use Rattle.pairs.specs.Hears.{takesCommit, heardOf}
 use Rattle.pairs.specs.Pulls.{pullRules, tookOf, pulledOf}
 use Rattle.pairs.specs.RollsBack.{common, rollRules, rolledOf}
-use Rattle.singles.specs.Roles.{downOf, restartedOf}
+use Rattle.singles.specs.StepsDown.{downOf}
+use Rattle.singles.specs.Restarts.{restartedOf}
 use Rattle.singles.specs.Writes.{ticks, tickTime, writeRules, entryOf, wroteOf}
 use Rattle.wholes.specs.Advances.{committedOf}
 use Rattle.rules.proofs.Others.{officeOf, wallOf}

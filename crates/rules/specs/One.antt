@@ -15,9 +15,12 @@ use Rattle.rules.specs.Rules.{inRange, apart, putBack}
 use Rattle.pairs.specs.Hears.{hearsOf}
 use Rattle.pairs.specs.Pulls.{pullsOf}
 use Rattle.pairs.specs.RollsBack.{rollsBackOf}
-use Rattle.singles.specs.Roles.{stepsDownOf, wallClockOf, restartsOf}
+use Rattle.singles.specs.StepsDown.{stepsDownOf}
+use Rattle.singles.specs.WallClock.{wallClockOf}
+use Rattle.singles.specs.Restarts.{restartsOf}
 use Rattle.singles.specs.Writes.{writesOf}
-use Rattle.singles.specs.Reads.{localReadOf, majorityReadOf}
+use Rattle.singles.specs.LocalRead.{localReadOf}
+use Rattle.singles.specs.MajorityRead.{majorityReadOf}
 
 -- a step of the whole cluster leaves a server as it is
 abbrev pub untouchedOf : Server → Stepped

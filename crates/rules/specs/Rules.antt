@@ -17,10 +17,14 @@ use Rattle.steps.specs.Answers.{refusingAll}
 use Rattle.pairs.specs.Hears.{hearsOf}
 use Rattle.pairs.specs.Pulls.{pullRules, pullDone}
 use Rattle.pairs.specs.RollsBack.{rollRules, rollDone}
-use Rattle.singles.specs.Roles.{downRules, downDone, clockRules, clockDone, restartsOf}
+use Rattle.singles.specs.StepsDown.{downRules, downDone}
+use Rattle.singles.specs.WallClock.{clockRules, clockDone}
+use Rattle.singles.specs.Restarts.{restartsOf}
 use Rattle.singles.specs.Writes.{writeRules, writeDone}
-use Rattle.singles.specs.Reads.{localRules, localDone, majorityRules, majorityDone}
-use Rattle.wholes.specs.Starts.{startRules, startDone, agreesOf}
+use Rattle.singles.specs.LocalRead.{localRules, localDone}
+use Rattle.singles.specs.MajorityRead.{majorityRules, majorityDone}
+use Rattle.wholes.specs.Starts.{startRules, startDone}
+use Rattle.wholes.specs.ClocksAgree.{agreesOf}
 use Rattle.wholes.specs.Elects.{electRules, electDone}
 use Rattle.wholes.specs.Advances.{advanceRules, advanceDone}
 use Rattle.wholes.specs.Acknowledged.{acknowledgeRules, acknowledgeDone}

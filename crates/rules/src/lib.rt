@@ -4,11 +4,25 @@ ghost use Rattle.rules.specs.Rules.{isStart, coreOf, stepOf};
 ghost use Rattle.rules.specs.One.{untouchedOf, oneOf, singleOf, pairOf};
 use cluster::Cluster;
 use cluster::Server;
+use pairs::hears::hears;
+use pairs::pulls::pulls;
+use pairs::rolls_back::rolls_back;
+use singles::local_read::local_read;
+use singles::majority_read::majority_read;
+use singles::restarts::restarts;
+use singles::steps_down::steps_down;
+use singles::wall_clock::wall_clock;
+use singles::writes::writes;
 use steps::Answer;
 use steps::Outcome;
 use steps::Refusal;
 use steps::Step;
 use steps::Stepped;
+use wholes::acknowledged::acknowledged;
+use wholes::advances::advances;
+use wholes::clocks_agree::clocks_agree;
+use wholes::elects::elects;
+use wholes::starts::starts;
 
 // The server as it is, with nothing to tell.
 pub fn untouched(s: Server) -> Stepped
@@ -25,15 +39,15 @@ pub fn one(s: Server, t: Server, step: Step) -> Stepped
     ensures { λ r. ⌜ r ≡ oneOf s t step ⌝ }
 {
     match step {
-        Step::StepDown(_) => singles::steps_down(s),
-        Step::Hears(_, _) => pairs::hears(s, t),
-        Step::Pulls(_, _) => pairs::pulls(s, t),
-        Step::RollsBack(_, _) => pairs::rolls_back(s, t),
-        Step::Writes(_, key, value) => singles::writes(s, key, value),
-        Step::WallClock(_) => singles::wall_clock(s),
-        Step::Restarts(_) => singles::restarts(s),
-        Step::LocalRead(_, key, asked) => singles::local_read(s, key, asked),
-        Step::MajorityRead(_, key, asked) => singles::majority_read(s, key, asked),
+        Step::StepDown(_) => steps_down(s),
+        Step::Hears(_, _) => hears(s, t),
+        Step::Pulls(_, _) => pulls(s, t),
+        Step::RollsBack(_, _) => rolls_back(s, t),
+        Step::Writes(_, key, value) => writes(s, key, value),
+        Step::WallClock(_) => wall_clock(s),
+        Step::Restarts(_) => restarts(s),
+        Step::LocalRead(_, key, asked) => local_read(s, key, asked),
+        Step::MajorityRead(_, key, asked) => majority_read(s, key, asked),
         Step::Start(_) => untouched(s),
         Step::Elect(_, _) => untouched(s),
         Step::Advances(_) => untouched(s),
@@ -89,26 +103,26 @@ pub fn core(c: Cluster, step: Step) -> Outcome
     ensures { λ r. ⌜ r ≡ coreOf c step ⌝ }
 {
     match step {
-        Step::Start(n) => wholes::starts(c, n as usize),
-        Step::Elect(a, set) => wholes::elects(c, a as usize, set),
+        Step::Start(n) => starts(c, n as usize),
+        Step::Elect(a, set) => elects(c, a as usize, set),
         Step::StepDown(a) => single(c, a as usize, step),
         Step::Hears(a, b) => pair(c, a as usize, b as usize, step),
         Step::Pulls(a, b) => pair(c, a as usize, b as usize, step),
         Step::RollsBack(a, b) => pair(c, a as usize, b as usize, step),
         Step::Writes(a, _, _) => single(c, a as usize, step),
-        Step::Advances(a) => wholes::advances(c, a as usize),
+        Step::Advances(a) => advances(c, a as usize),
         Step::WallClock(a) => single(c, a as usize, step),
         Step::Restarts(a) => single(c, a as usize, step),
         Step::LocalRead(a, _, _) => single(c, a as usize, step),
         Step::MajorityRead(a, _, _) => single(c, a as usize, step),
-        Step::Acknowledged(a, k, n, term) => wholes::acknowledged(
+        Step::Acknowledged(a, k, n, term) => acknowledged(
             c,
             a as usize,
             k as usize,
             n as usize,
             term,
         ),
-        Step::ClocksAgree => wholes::clocks_agree(c),
+        Step::ClocksAgree => clocks_agree(c),
     }
 }
 

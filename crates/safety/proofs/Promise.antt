@@ -32,7 +32,7 @@ use Rattle.steps.specs.declared.Answer.the-variants.{Value, Refused}
 use Rattle.steps.specs.declared.Refusal.{Refusal}
 use Rattle.steps.specs.declared.Outcome.{Outcome}
 use Rattle.steps.specs.Ranges.{FitsStep}
-use Rattle.singles.specs.Reads.{commitTime, covered}
+use Rattle.singles.specs.MajorityRead.{commitTime, covered}
 use Rattle.rules.specs.Rules.{rulesOf, doneOf, stepOf}
 use Rattle.rules.specs.Runs.{runOf}
 use Rattle.rules.proofs.Keeps.{step-fits}

@@ -17,8 +17,10 @@ use Rattle.steps.specs.declared.Step.{Step}
 use Rattle.steps.specs.declared.Step.the-variants.{StepDown, Hears, WallClock, Restarts, LocalRead, MajorityRead, Acknowledged, ClocksAgree}
 use Rattle.steps.proofs.Decided.{Clear}
 use Rattle.pairs.specs.Hears.{takesCommit, heardOf}
-use Rattle.singles.specs.Roles.{downOf, tickedOf, restartedOf}
-use Rattle.wholes.specs.Starts.{greatestClock}
+use Rattle.singles.specs.StepsDown.{downOf}
+use Rattle.singles.specs.WallClock.{tickedOf}
+use Rattle.singles.specs.Restarts.{restartedOf}
+use Rattle.wholes.specs.ClocksAgree.{greatestClock}
 use Rattle.rules.specs.Rules.{rulesOf, doneOf}
 use Rattle.safety.specs.Quorum.{Quorums}
 use Rattle.safety.specs.Cluster.{Server}

@@ -3,8 +3,11 @@ use Prim.Native.Nat.{ℕ}
 use Rattle.base.proofs.Results.{OneResult, one-result}
 use Rattle.clock.specs.declared.Time.{Time}
 use Rattle.cluster.specs.declared.Server.{Server}
-use Rattle.singles.specs.Reads.{localReadOf, majorityReadOf}
-use Rattle.singles.specs.Roles.{restartsOf, stepsDownOf, wallClockOf}
+use Rattle.singles.specs.LocalRead.{localReadOf}
+use Rattle.singles.specs.MajorityRead.{majorityReadOf}
+use Rattle.singles.specs.Restarts.{restartsOf}
+use Rattle.singles.specs.StepsDown.{stepsDownOf}
+use Rattle.singles.specs.WallClock.{wallClockOf}
 use Rattle.singles.specs.Writes.{writesOf, writtenOf}
 
 pub steps-down : (s : Server) → OneResult (stepsDownOf s)

@@ -1,4 +1,7 @@
--- Kinds 2, 6, 8, 9, 10 and 11: what a server does by itself. Assumes nothing.
-pub mod Roles
+-- Kinds 2, 6, 8, 9, 10 and 11: what a server does by itself, a module each. Assumes nothing.
+pub mod StepsDown
 pub mod Writes
-pub mod Reads
+pub mod WallClock
+pub mod Restarts
+pub mod LocalRead
+pub mod MajorityRead

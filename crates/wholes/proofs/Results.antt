@@ -6,7 +6,8 @@ use Rattle.cluster.specs.declared.Server.{Server}
 use Rattle.wholes.specs.Acknowledged.{acknowledgedOf, hasEntry, holders, isAcknowledged}
 use Rattle.wholes.specs.Advances.{advancesOf, backs, highestPassing}
 use Rattle.wholes.specs.Elects.{allMayVote, electsOf, mayVote, notBehind, voteOk}
-use Rattle.wholes.specs.Starts.{agreesOf, greatestClock, startsOf}
+use Rattle.wholes.specs.ClocksAgree.{agreesOf, greatestClock}
+use Rattle.wholes.specs.Starts.{startsOf}
 
 pub starts : (c : Cluster) (n : ℕ) → OneResult (startsOf c n)
 starts c n = one-result (startsOf c n)

@@ -1,17 +1,16 @@
--- Kinds 0 and 13: start, and clocks agree. Assumes nothing.
+-- Kind 0: start. Assumes nothing.
 use mathlib.Core.List.{[], _∷_}
 use Prim.Native.Nat.{ℕ}
 use lib.Dec.{leb}
-use Rattle.base.specs.Numbers.{greatest}
 use Rattle.cluster.specs.declared.Cluster.{Cluster}
-use Rattle.cluster.specs.Servers.{fewestServers, mostServers, freshCluster, serverCount, serverAt, clocksSet}
+use Rattle.cluster.specs.Servers.{fewestServers, mostServers, freshCluster}
 use Rattle.steps.specs.declared.Outcome.{Outcome}
 use Rattle.steps.specs.declared.Answer.the-variants.{Done}
 use Rattle.steps.specs.declared.Refusal.the-variants.{OutOfRange}
 use Rattle.steps.specs.Refusals.{Rules, decided}
 use Rattle.steps.specs.Answers.{refusingAll}
 
--- kind 0: a is 2 to 7; afterwards the fresh cluster
+-- a is 2 to 7; afterwards the fresh cluster
 abbrev pub startRules : ℕ → Rules
 startRules n = (leb fewestServers n, OutOfRange) ∷ (leb n mostServers, OutOfRange) ∷ []
 
@@ -20,10 +19,3 @@ startDone n = record { cluster = freshCluster n; answer = Done }
 
 abbrev pub startsOf : Cluster → ℕ → Outcome
 startsOf c n = decided (refusingAll c) (startDone n) (startRules n)
-
--- kind 13: every counted server's wall clock is the greatest of them
-abbrev pub greatestClock : Cluster → ℕ
-greatestClock c = greatest (serverCount c) (λ i. serverAt c i .wall)
-
-abbrev pub agreesOf : Cluster → Outcome
-agreesOf c = record { cluster = clocksSet c (greatestClock c); answer = Done }

@@ -1,0 +1,21 @@
+-- `pairs::pulls::took` meets its contract. Assumes nothing.
+use Rattle.pairs.specs.Pulls.{tookOf}
+use borrow.Author.Needs.{needs}
+use Rattle.pairs.proofs.pulls.took.Statement.{statement}
+use Rattle.pairs.proofs.pulls.took.Tie as tie
+
+later-requires : tie.Need-later-requires
+later-requires c κs = search needs
+
+greater-term-requires : tie.Need-greater-term-requires
+greater-term-requires c κs = search needs
+
+greater-requires : tie.Need-greater-requires
+greater-requires c κs = search needs
+
+returns : tie.Need-returns
+unfolding tookOf
+returns c = rw (c .greater .ensures, c .before .greater-term .ensures, c .before .before .later .ensures)
+
+pub took-spec : {M : Type 1} → statement M
+took-spec = tie.close (tie.spec later-requires greater-term-requires greater-requires returns)

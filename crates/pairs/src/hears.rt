@@ -1,0 +1,53 @@
+// Kind 3: a hears b.
+ghost use mathlib.Core.Path.{_≡_};
+ghost use Rattle.pairs.specs.Hears.{takesCommit, staysPrimary, hearsOf};
+use super::greater_term;
+use cluster::Server;
+use steps::Answer;
+use steps::Stepped;
+
+// Whether a, hearing b, takes its commit point.
+pub fn takes_commit(s: Server, t: Server) -> bool
+    ensures { λ r. ⌜ r ≡ takesCommit s t ⌝ }
+{
+    if t.commit <= s.commit {
+        return false;
+    }
+    let g = s.log;
+    let h = t.log;
+    log::equal_at(g, h, t.commit)
+}
+
+// Whether a stays primary, hearing b: a higher term makes it secondary.
+pub fn stays_primary(s: Server, t: Server) -> bool
+    ensures { λ r. ⌜ r ≡ staysPrimary s t ⌝ }
+{
+    if s.term < t.term {
+        return false;
+    }
+    s.primary
+}
+
+pub fn hears(s: Server, t: Server) -> Stepped
+    ensures { λ r. ⌜ r ≡ hearsOf s t ⌝ }
+{
+    let x = s.time;
+    let y = t.time;
+    let time = clock::later(x, y);
+    let term = greater_term(s.term, t.term);
+    let primary = stays_primary(s, t);
+    let mut commit = s.commit;
+    if takes_commit(s, t) {
+        commit = t.commit;
+    }
+    Stepped {
+        server: Server {
+            term: term,
+            primary: primary,
+            commit: commit,
+            time: time,
+            ..s
+        },
+        answer: Answer::Done,
+    }
+}

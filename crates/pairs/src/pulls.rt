@@ -1,0 +1,60 @@
+// Kind 4: a pulls from b.
+ghost use mathlib.Core.Path.{_≡_};
+ghost use Rattle.pairs.specs.Pulls.{mayJoin, tookOf, pullsOf};
+use super::greater;
+use super::greater_term;
+use cluster::Server;
+use log::Log;
+use steps::Answer;
+use steps::Refusal;
+use steps::Stepped;
+
+// Server a with the log g, and the greater term, cluster time and commit point of both.
+pub fn took(s: Server, t: Server, g: Log) -> Server
+    ensures { λ r. ⌜ r ≡ tookOf s t g ⌝ }
+{
+    let x = s.time;
+    let y = t.time;
+    let time = clock::later(x, y);
+    let term = greater_term(s.term, t.term);
+    let commit = greater(s.commit, t.commit);
+    Server {
+        log: g,
+        term: term,
+        commit: commit,
+        time: time,
+        ..s
+    }
+}
+
+// Whether a log of n entries is empty, or ends in an entry equal to the other's at that position.
+pub fn may_join(g: Log, h: Log, n: usize) -> bool
+    ensures { λ r. ⌜ r ≡ mayJoin g h n ⌝ }
+{
+    if n == 0 {
+        return true;
+    }
+    log::equal_at(g, h, n)
+}
+
+pub fn pulls(s: Server, t: Server) -> Stepped
+    ensures { λ r. ⌜ r ≡ pullsOf s t ⌝ }
+{
+    let g = s.log;
+    let h = t.log;
+    if s.primary {
+        return steps::refuse(s, Refusal::WrongRole);
+    }
+    let n = log::length_of(g);
+    if log::length_of(h) <= n {
+        return steps::refuse(s, Refusal::ConditionUnmet);
+    }
+    if !may_join(g, h, n) {
+        return steps::refuse(s, Refusal::ConditionUnmet);
+    }
+    let joined = log::join(g, h, n);
+    Stepped {
+        server: took(s, t, joined),
+        answer: Answer::Reached(log::length_of(joined)),
+    }
+}

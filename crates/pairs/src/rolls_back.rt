@@ -1,0 +1,36 @@
+// Kind 5: a rolls back to b.
+ghost use mathlib.Core.Path.{_≡_};
+ghost use Rattle.pairs.specs.RollsBack.{rollsBackOf};
+use super::pulls::took;
+use cluster::Server;
+use steps::Answer;
+use steps::Refusal;
+use steps::Stepped;
+
+pub fn rolls_back(s: Server, t: Server) -> Stepped
+    ensures { λ r. ⌜ r ≡ rollsBackOf s t ⌝ }
+{
+    let g = s.log;
+    let h = t.log;
+    if s.primary {
+        return steps::refuse(s, Refusal::WrongRole);
+    }
+    if log::length_of(g) < 1 {
+        return steps::refuse(s, Refusal::ConditionUnmet);
+    }
+    if log::last_term(h) <= log::last_term(g) {
+        return steps::refuse(s, Refusal::ConditionUnmet);
+    }
+    if log::is_beginning(g, h) {
+        return steps::refuse(s, Refusal::ConditionUnmet);
+    }
+    let k = log::common_beginning(g, h);
+    if k < s.commit {
+        return steps::refuse(s, Refusal::BelowCommitPoint);
+    }
+    let joined = log::join(g, h, k);
+    Stepped {
+        server: took(s, t, joined),
+        answer: Answer::Reached(log::length_of(joined)),
+    }
+}

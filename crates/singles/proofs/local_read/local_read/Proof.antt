@@ -1,0 +1,64 @@
+-- `singles::local_read::local_read` meets its contract. Assumes nothing.
+use Rattle.log.specs.Order.{highestKey}
+use Rattle.log.specs.Logs.{live}
+use Rattle.log.specs.Entries.{appliedTime}
+use Rattle.clock.specs.Times.{isBefore}
+use Rattle.clock.specs.declared.Time.{Time}
+use borrow.Author.Tests.{le-leb, lt-leb}
+use native.Mathlib.Omega.{arith}
+use lib.Seq.{take-all}
+use lib.ListN.{take}
+use mathlib.Core.Bool.{not}
+use mathlib.Core.Path.{_≡_, ap, sym, _∙_}
+use borrow.Author.Needs.{needs}
+use Rattle.singles.proofs.local_read.local_read.Statement.{statement}
+use Rattle.singles.proofs.local_read.local_read.Tie as tie
+
+-- the test of the time, by what the calls gave
+tested : (c : tie.After-is-before) → c .is-before .result ≡ isBefore (appliedTime (live (c .before .before .before .before .args .s .log))) (c .before .before .before .before .args .asked)
+tested c = c .is-before .ensures ∙ ap (λ (t : Time). isBefore t (c .before .before .before .before .args .asked)) (c .before .applied-time .ensures)
+
+refuse-requires : tie.Need-refuse-requires
+refuse-requires c κs = search needs
+
+returns : tie.Need-returns
+returns c = rw (lt-leb (c .before .before .args .key) highestKey (c .before .if1 .taken)) (c .refuse .ensures)
+
+applied-time-requires : tie.Need-applied-time-requires
+applied-time-requires c κs = search needs
+
+is-before-requires : tie.Need-is-before-requires
+is-before-requires c κs = search needs
+
+refuse-requires-2 : tie.Need-refuse-requires-2
+refuse-requires-2 c κs = search needs
+
+returns-2 : tie.Need-returns-2
+returns-2 c = rw (le-leb (c .before .before .before .before .before .before .args .key) highestKey (c .before .before .before .before .before .if1 .left), ap not (sym (tested (c .before .before)) ∙ c .before .if2 .taken)) (c .refuse2 .ensures)
+
+length-of-requires : tie.Need-length-of-requires
+length-of-requires c κs = search needs
+
+latest-value-requires : tie.Need-latest-value-requires
+latest-value-requires c κs = search needs
+
+returns-3 : tie.Need-returns-3
+returns-3 c =
+    let g = c .before .before .before .before .before .before .before .args .s .log in
+    let n = c .before .length-of .result in
+    let all : take n (live g) ≡ live g = take-all n (live g) (omega (arith, c .before .length-of .ensures)) in
+    rw (le-leb (c .before .before .before .before .before .before .before .args .key) highestKey (c .before .before .before .before .before .before .if1 .left), ap not (sym (tested (c .before .before .before)) ∙ c .before .before .if2 .left), c .latest-value .ensures, c .before .before .before .before .applied-time .ensures, all)
+
+pub local-read-spec : {M : Type 1} → statement M
+local-read-spec =
+    tie.close
+    (tie.spec
+    refuse-requires
+    returns
+    applied-time-requires
+    is-before-requires
+    refuse-requires-2
+    returns-2
+    length-of-requires
+    latest-value-requires
+    returns-3)

@@ -1,0 +1,52 @@
+-- `singles::majority_read::majority_read` meets its contract. Assumes nothing.
+use Rattle.singles.specs.MajorityRead.{commitTime}
+use Rattle.log.specs.Order.{highestKey}
+use Rattle.clock.specs.Times.{isBefore}
+use Rattle.clock.specs.declared.Time.{Time}
+use borrow.Author.Tests.{le-leb, lt-leb}
+use mathlib.Core.Bool.{not}
+use mathlib.Core.Path.{_≡_, ap, sym, _∙_}
+use borrow.Author.Needs.{needs}
+use Rattle.singles.proofs.majority_read.majority_read.Statement.{statement}
+use Rattle.singles.proofs.majority_read.majority_read.Tie as tie
+
+-- the test of the time, by what the calls gave
+tested : (c : tie.After-is-before) → c .is-before .result ≡ isBefore (commitTime (c .before .before .before .before .args .s)) (c .before .before .before .before .args .asked)
+tested c = c .is-before .ensures ∙ ap (λ (t : Time). isBefore t (c .before .before .before .before .args .asked)) (c .before .time-at .ensures)
+
+refuse-requires : tie.Need-refuse-requires
+refuse-requires c κs = search needs
+
+returns : tie.Need-returns
+returns c = rw (lt-leb (c .before .before .args .key) highestKey (c .before .if1 .taken)) (c .refuse .ensures)
+
+time-at-requires : tie.Need-time-at-requires
+time-at-requires c κs = search needs
+
+is-before-requires : tie.Need-is-before-requires
+is-before-requires c κs = search needs
+
+refuse-requires-2 : tie.Need-refuse-requires-2
+refuse-requires-2 c κs = search needs
+
+returns-2 : tie.Need-returns-2
+returns-2 c = rw (le-leb (c .before .before .before .before .before .before .args .key) highestKey (c .before .before .before .before .before .if1 .left), ap not (sym (tested (c .before .before)) ∙ c .before .if2 .taken)) (c .refuse2 .ensures)
+
+latest-value-requires : tie.Need-latest-value-requires
+latest-value-requires c κs = search needs
+
+returns-3 : tie.Need-returns-3
+returns-3 c = rw (le-leb (c .before .before .before .before .before .before .args .key) highestKey (c .before .before .before .before .before .if1 .left), ap not (sym (tested (c .before .before)) ∙ c .before .if2 .left), c .latest-value .ensures, c .before .before .before .time-at .ensures)
+
+pub majority-read-spec : {M : Type 1} → statement M
+majority-read-spec =
+    tie.close
+    (tie.spec
+    refuse-requires
+    returns
+    time-at-requires
+    is-before-requires
+    refuse-requires-2
+    returns-2
+    latest-value-requires
+    returns-3)

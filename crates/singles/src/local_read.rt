@@ -1,0 +1,26 @@
+// Kind 10: local read at a.
+ghost use mathlib.Core.Path.{_≡_};
+ghost use Rattle.singles.specs.LocalRead.{localReadOf};
+use clock::Time;
+use cluster::Server;
+use steps::Answer;
+use steps::Refusal;
+use steps::Stepped;
+
+pub fn local_read(s: Server, key: u8, asked: Time) -> Stepped
+    ensures { λ r. ⌜ r ≡ localReadOf s key asked ⌝ }
+{
+    if log::HIGHEST_KEY < key {
+        return steps::refuse(s, Refusal::OutOfRange);
+    }
+    let g = s.log;
+    let reached = log::applied_time(g);
+    if clock::is_before(reached, asked) {
+        return steps::refuse(s, Refusal::NotYet);
+    }
+    let n = log::length_of(g);
+    Stepped {
+        server: s,
+        answer: Answer::Value(log::latest_value(g, key, n), reached),
+    }
+}

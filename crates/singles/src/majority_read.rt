@@ -1,0 +1,26 @@
+// Kind 11: majority read at a.
+ghost use mathlib.Core.Path.{_≡_};
+ghost use Rattle.singles.specs.MajorityRead.{majorityReadOf};
+use clock::Time;
+use cluster::Server;
+use steps::Answer;
+use steps::Refusal;
+use steps::Stepped;
+
+pub fn majority_read(s: Server, key: u8, asked: Time) -> Stepped
+    ensures { λ r. ⌜ r ≡ majorityReadOf s key asked ⌝ }
+{
+    if log::HIGHEST_KEY < key {
+        return steps::refuse(s, Refusal::OutOfRange);
+    }
+    let g = s.log;
+    let n = s.commit;
+    let reached = log::time_at(g, n);
+    if clock::is_before(reached, asked) {
+        return steps::refuse(s, Refusal::NotYet);
+    }
+    Stepped {
+        server: s,
+        answer: Answer::Value(log::latest_value(g, key, n), reached),
+    }
+}

@@ -1,0 +1,22 @@
+// Kind 9: a restarts.
+ghost use mathlib.Core.Path.{_≡_};
+ghost use Rattle.singles.specs.Restarts.{restartsOf};
+use cluster::Server;
+use steps::Answer;
+use steps::Stepped;
+
+pub fn restarts(s: Server) -> Stepped
+    ensures { λ r. ⌜ r ≡ restartsOf s ⌝ }
+{
+    let g = s.log;
+    let time = log::applied_time(g);
+    Stepped {
+        server: Server {
+            primary: false,
+            commit: 0,
+            time: time,
+            ..s
+        },
+        answer: Answer::Done,
+    }
+}

@@ -1,0 +1,22 @@
+// Kind 2: a steps down.
+ghost use mathlib.Core.Path.{_≡_};
+ghost use Rattle.singles.specs.StepsDown.{stepsDownOf};
+use cluster::Server;
+use steps::Answer;
+use steps::Refusal;
+use steps::Stepped;
+
+pub fn steps_down(s: Server) -> Stepped
+    ensures { λ r. ⌜ r ≡ stepsDownOf s ⌝ }
+{
+    if !s.primary {
+        return steps::refuse(s, Refusal::WrongRole);
+    }
+    Stepped {
+        server: Server {
+            primary: false,
+            ..s
+        },
+        answer: Answer::Done,
+    }
+}
