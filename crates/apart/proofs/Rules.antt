@@ -13,7 +13,7 @@ use Rattle.steps.specs.declared.Answer.the-variants as A
 use Rattle.steps.specs.declared.Refusal.the-variants.{OutOfRange}
 use Rattle.steps.specs.declared.Step.the-variants.{Start, Elect, StepDown, WallClock, Restarts, LocalRead, ClocksAgree}
 use Rattle.wholes.specs.Elects.{notBehind, mayVote, allMayVote}
-use Rattle.rules.specs.Rules.{rulesOf, doneOf, coreOf, isStart}
+use Rattle.rules.specs.Rules.{rowOf, coreOf, isStart}
 use Rattle.rules.specs.One.{untouchedOf, oneOf, singleOf}
 use Rattle.apart.proofs.Things.{at, x, holder, leader, F2}
 
@@ -40,11 +40,11 @@ unfolding eachFrom startedOf oneOf singleOf
 single-puts-back-at-0 = refl
 
 pub core-looks-at-the-record : coreOf zeroCluster ClocksAgree .answer ≡ A.Done
-unfolding rulesOf doneOf coreOf
+unfolding rowOf coreOf
 core-looks-at-the-record = refl
 
 pub core-refuses-every-step : coreOf F2 (Elect 0 3) .answer ≡ A.Elected 1
-unfolding every count eachFrom entryAt startedOf member isWithin notBehind mayVote allMayVote rulesOf doneOf coreOf
+unfolding every count eachFrom entryAt startedOf member isWithin notBehind mayVote allMayVote rowOf coreOf
 core-refuses-every-step = refl
 
 pub is-start-never : isStart (Start 2) ≡ true

@@ -18,7 +18,7 @@ use Rattle.steps.specs.declared.Step.the-variants.{Start}
 use Rattle.steps.specs.Ranges.{FitsStep}
 use Rattle.steps.proofs.Decided.{Clear, Broken, here, later}
 use Rattle.wholes.specs.Starts.{startRules}
-use Rattle.rules.specs.Rules.{rulesOf, isStart, stepOf}
+use Rattle.rules.specs.Rules.{rowOf, rulesOf, isStart, stepOf}
 use Rattle.rules.specs.Runs.{runOf}
 use Rattle.rules.proofs.Outcomes.{Why, ill-formed, broken, StepDone, step-cases, refused-why}
 use Rattle.frames.specs.declared.ReadStep.{ReadStep}
@@ -60,7 +60,7 @@ pub came-fresh : {c : Cluster} {n : ℕ} → Fresh c n → Came c
 came-fresh {c} {n} f = since n [] (f .fewest) (f .most) tt (f .is)
 
 came-start : (c : Cluster) (s : Step) (n : ℕ) → s ≡ Start n → StepDone c s → Came (stepOf c s .cluster)
-unfolding rulesOf
+unfolding rowOf
 came-start c s n e d =
     came-fresh (subst (λ (t : Step). Fresh (stepOf c t .cluster) n) (sym e) (clear-fresh c n (subst (λ (t : Step). Clear (rulesOf c t)) e (d .clear))))
 
@@ -85,7 +85,7 @@ third n (here e) = refl
 third n (later e (here f)) = refl
 
 before-start : (s : Step) → stepOf zeroCluster s .answer ≢ Refused BelowCommitPoint
-unfolding rulesOf
+unfolding rowOf
 before-start s nine = go (refused-why zeroCluster s BelowCommitPoint nine) refl
   where
     go : {r : Refusal} → Why zeroCluster s r → r ≡ BelowCommitPoint → ⊥

@@ -11,7 +11,7 @@ use Rattle.steps.specs.declared.Step.{Step}
 use Rattle.steps.specs.declared.Step.the-variants.{Start}
 use Rattle.steps.specs.Ranges.{FitsStep}
 use Rattle.wholes.specs.Starts.{startDone}
-use Rattle.rules.specs.Rules.{rulesOf, doneOf, isStart, stepOf}
+use Rattle.rules.specs.Rules.{rowOf, isStart, stepOf}
 use Rattle.rules.specs.Runs.{runOf}
 use Rattle.rules.proofs.Outcomes.{step-done}
 use Rattle.frames.specs.Steps.{frameFor, bytesOfFrame, writeStep}
@@ -59,7 +59,7 @@ none-begins : {c d : Cluster} → c ≡ d → (r : List Step) → StepsFrom d r 
 none-begins {d = d} e r h = subst (λ (x : Cluster). NoneBegins x (linesOf r)) (sym e) (none-from d r h)
 
 start-is : (n : ℕ) → fewestServers ≤ n → n ≤ mostServers → answerTo zeroCluster (writeStep (Start n)) ≡ startDone n
-unfolding rulesOf doneOf
+unfolding rowOf
 start-is n two seven =
     line-is zeroCluster (Start n) (omega arith) ∙ step-done zeroCluster (Start n) refl (le-leb fewestServers n two, (le-leb n mostServers seven, tt))
 

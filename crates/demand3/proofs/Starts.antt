@@ -15,7 +15,7 @@ use Rattle.steps.specs.declared.Step.{Step}
 use Rattle.steps.specs.declared.Step.the-variants.{Start, Elect, StepDown, Hears, Pulls, RollsBack, Writes, Advances, WallClock, Restarts, LocalRead, MajorityRead, Acknowledged, ClocksAgree}
 use Rattle.steps.proofs.Decided.{Clear}
 use Rattle.wholes.specs.Starts.{startRules}
-use Rattle.rules.specs.Rules.{rulesOf, isStart, stepOf}
+use Rattle.rules.specs.Rules.{rowOf, isStart, stepOf}
 use Rattle.rules.proofs.Outcomes.{StepRefused, step-cases}
 use Rattle.rules.proofs.Keeps.{start-fresh}
 use Rattle.frames.specs.declared.ReadStep.the-variants as R
@@ -58,7 +58,7 @@ pub clear-fresh : (c : Cluster) (n : ℕ) → Clear (startRules n) → Fresh (st
 clear-fresh c n k = record { fewest = leb-true fewestServers n (k .0); most = leb-true n mostServers (k .1 .0); is = start-fresh c n k }
 
 start-clear : (c : Cluster) (n : ℕ) → stepOf c (Start n) .answer ≡ Done → Clear (startRules n)
-unfolding rulesOf
+unfolding rowOf
 start-clear c n d = ⊎-elim (λ k. k .clear) refused (step-cases c (Start n))
   where
     refused : StepRefused c (Start n) → Clear (startRules n)

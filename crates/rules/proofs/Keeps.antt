@@ -30,7 +30,7 @@ use Rattle.wholes.specs.Elects.{mayVote, allMayVote, electRules, newTerm}
 use Rattle.wholes.specs.Advances.{passes, highestPassing, advanceDone}
 use Rattle.wholes.specs.Starts.{startRules}
 use Rattle.wholes.specs.ClocksAgree.{greatestClock}
-use Rattle.rules.specs.Rules.{rulesOf, doneOf, isStart, stepOf}
+use Rattle.rules.specs.Rules.{rowOf, rulesOf, doneOf, isStart, stepOf}
 use Rattle.rules.proofs.Outcomes.{step-done, StepDone, step-cases}
 use Rattle.rules.proofs.Others.{voted-inside, voted-outside, clocked-counted, clocked-past}
 use Rattle.rules.proofs.Servers.{ServerSound, down-sound, wall-sound, restarted-sound, committed-sound, voted-sound, heard-sound, pulled-sound, rolled-sound, wrote-sound}
@@ -103,7 +103,7 @@ module _ {c : Cluster} (h : Sound c) where
 
 -- a start needs nothing of the record before
 done-sound : (c : Cluster) (s : Step) → (isStart s ≡ false → Sound c) → FitsStep s → Clear (rulesOf c s) → Sound (doneOf c s .cluster)
-unfolding rulesOf doneOf
+unfolding rowOf
 done-sound c (Start n) h f k =
     let two = leb-true _ n (k .0) in
     let seven = leb-true n _ (k .1 .0) in
@@ -142,7 +142,7 @@ step-well-formed c s f fs w = well-formed (stepOf c s .cluster) (step-good c s f
 
 -- a start that succeeds gives the fresh cluster, which is well formed, from any record
 pub start-fresh : (c : Cluster) (n : ℕ) → Clear (startRules n) → stepOf c (Start n) .cluster ≡ freshCluster n
-unfolding rulesOf doneOf
+unfolding rowOf
 start-fresh c n k = ap (λ (o : Outcome). o .cluster) (step-done c (Start n) refl k)
 
 pub start-good : (c : Cluster) (n : ℕ) → Clear (startRules n) → Good (stepOf c (Start n) .cluster)

@@ -15,7 +15,7 @@ use Rattle.steps.specs.declared.Step.{Step}
 use Rattle.steps.specs.declared.Step.the-variants.{Start, Elect, StepDown, Hears, Pulls, RollsBack, Writes, Advances, WallClock, Restarts, LocalRead, MajorityRead, Acknowledged, ClocksAgree}
 use Rattle.steps.specs.Refusals.{Rules, refusalNumber}
 use Rattle.steps.proofs.Decided.{Broken, here, later}
-use Rattle.rules.specs.Rules.{rulesOf, stepOf}
+use Rattle.rules.specs.Rules.{rowOf, rulesOf, stepOf}
 use Rattle.rules.proofs.Outcomes.{Why, ill-formed, broken, refused-why}
 
 -- a rule that is broken, wherever it stands in the list
@@ -51,7 +51,7 @@ OfKind12 s = (a : ℕ) × (k : ℕ) × (n : ℕ) × (term : ℕ) × (s ≡ Ackno
 
 -- every other kind's rules rise, from refusal 3 on
 rules-rise : (c : Cluster) (s : Step) → (OfKind12 s → ⊥) → rises 3 (rulesOf c s) ≡ true
-unfolding rulesOf
+unfolding rowOf
 rules-rise c (Start n) h = refl
 rules-rise c (Elect a m) h = refl
 rules-rise c (StepDown a) h = refl

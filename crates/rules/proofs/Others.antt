@@ -21,7 +21,7 @@ use Rattle.steps.specs.declared.Step.{Step}
 use Rattle.steps.specs.declared.Step.the-variants.{Start, Elect, StepDown, Hears, Pulls, RollsBack, Writes, Advances, WallClock, Restarts, LocalRead, MajorityRead, Acknowledged, ClocksAgree}
 use Rattle.wholes.specs.Elects.{newTerm}
 use Rattle.wholes.specs.ClocksAgree.{greatestClock}
-use Rattle.rules.specs.Rules.{doneOf, isStart, stepOf}
+use Rattle.rules.specs.Rules.{rowOf, doneOf, isStart, stepOf}
 use Rattle.rules.proofs.Outcomes.{step-cases}
 
 -- ---- which servers a step may change
@@ -105,7 +105,7 @@ abbrev Same : Server → Server → Type 0
 Same s t = t ≡ s
 
 done-others : (c : Cluster) (s : Step) (i : ℕ) → touches c s i ≡ false → serverAt (doneOf c s .cluster) i ≡ serverAt c i
-unfolding doneOf
+unfolding rowOf
 done-others c (Start n) i e = not-both true refl e
 done-others c (Elect a m) i e = changed-by Same (λ s. refl) (votedOf a m (newTerm c a)) c i (voted-outside a m (newTerm c a) i (serverAt c i) e)
 done-others c (StepDown a) i e = replaced-others c a _ i (eqb-false i a e)
@@ -126,7 +126,7 @@ pub others-unchanged : (c : Cluster) (s : Step) (i : ℕ) → touches c s i ≡ 
 others-unchanged c s i e = stepped-by Same (λ x. refl) c s i (done-others c s i e)
 
 done-count : (c : Cluster) (s : Step) → isStart s ≡ false → doneOf c s .cluster .count ≡ c .count
-unfolding doneOf
+unfolding rowOf
 done-count c (Start n) e = not-both true refl e
 done-count c (Elect a m) e = refl
 done-count c (StepDown a) e = refl
@@ -155,7 +155,7 @@ pub record SameButOffice (s t : Server) : Type 0 where
   pub time : t .time ≡ s .time
 
 pub elect-changes : (c : Cluster) (a m i : ℕ) → SameButOffice (serverAt c i) (serverAt (stepOf c (Elect a m) .cluster) i)
-unfolding doneOf
+unfolding rowOf
 elect-changes c a m i =
     stepped-by SameButOffice itself c (Elect a m) i (changed-by SameButOffice itself (votedOf a m (newTerm c a)) c i (go (member m i) refl))
   where
@@ -175,7 +175,7 @@ pub record SameButClock (s t : Server) : Type 0 where
   pub time : t .time ≡ s .time
 
 pub agree-changes : (c : Cluster) (i : ℕ) → SameButClock (serverAt c i) (serverAt (stepOf c ClocksAgree .cluster) i)
-unfolding doneOf
+unfolding rowOf
 agree-changes c i =
     stepped-by SameButClock itself c ClocksAgree i (changed-by SameButClock itself (clockedOf (c .count) (greatestClock c)) c i (go (ltb i (c .count)) refl))
   where

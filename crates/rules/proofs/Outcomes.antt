@@ -14,7 +14,7 @@ use Rattle.steps.specs.declared.Step.{Step}
 use Rattle.steps.specs.declared.Step.the-variants.{Start, Elect, StepDown, Hears, Pulls, RollsBack, Writes, Advances, WallClock, Restarts, LocalRead, MajorityRead, Acknowledged, ClocksAgree}
 use Rattle.steps.specs.Answers.{refusingAll}
 use Rattle.steps.proofs.Decided.{Clear, Broken, clear-or-broken, decided-clear, decided-broken}
-use Rattle.rules.specs.Rules.{rulesOf, doneOf, coreOf, isStart, stepOf}
+use Rattle.rules.specs.Rules.{rowOf, rulesOf, doneOf, coreOf, isStart, stepOf}
 
 -- ---- done or refused
 
@@ -66,7 +66,7 @@ isRefused (A.Refused r) = true
 
 -- what is done answers no refusal
 pub done-not-refused : (c : Cluster) (s : Step) → isRefused (doneOf c s .answer) ≡ false
-unfolding doneOf
+unfolding rowOf
 done-not-refused c (Start n) = refl
 done-not-refused c (Elect a m) = refl
 done-not-refused c (StepDown a) = refl

@@ -22,7 +22,7 @@ use Rattle.singles.specs.WallClock.{clockRules, clockDone}
 use Rattle.singles.specs.Writes.{writeRules, writeDone}
 use Rattle.singles.specs.LocalRead.{localRules, localDone}
 use Rattle.singles.specs.MajorityRead.{majorityRules, majorityDone}
-use Rattle.rules.specs.Rules.{apart, putBack, rulesOf, doneOf, coreOf}
+use Rattle.rules.specs.Rules.{rowOf, apart, putBack, coreOf}
 use Rattle.rules.specs.One.{oneOf, singleOf, pairOf}
 use Rattle.rules.proofs.Others.{put-same}
 
@@ -38,27 +38,27 @@ module _ (c : Cluster) (a : ℕ) where
   in-place x y e = ap (λ (o : Outcome). cond (ltb a (serverCount c)) o (refusingAll c OutOfRange)) e
 
   pub core-down : singleOf c a (StepDown a) ≡ coreOf c (StepDown a)
-  unfolding singleOf oneOf coreOf rulesOf doneOf
+  unfolding singleOf oneOf coreOf rowOf
   core-down = in-place _ _ (placed c a (downDone (serverAt c a)) (downRules (serverAt c a)))
 
   pub core-writes : (key value : ℕ) → singleOf c a (Writes a key value) ≡ coreOf c (Writes a key value)
-  unfolding singleOf oneOf coreOf rulesOf doneOf
+  unfolding singleOf oneOf coreOf rowOf
   core-writes key value = in-place _ _ (placed c a (writeDone (serverAt c a) key value) (writeRules (serverAt c a) key value))
 
   pub core-clock : singleOf c a (WallClock a) ≡ coreOf c (WallClock a)
-  unfolding singleOf oneOf coreOf rulesOf doneOf
+  unfolding singleOf oneOf coreOf rowOf
   core-clock = in-place _ _ (placed c a (clockDone (serverAt c a)) (clockRules (serverAt c a)))
 
   pub core-restarts : singleOf c a (Restarts a) ≡ coreOf c (Restarts a)
-  unfolding singleOf oneOf coreOf rulesOf doneOf
+  unfolding singleOf oneOf coreOf rowOf
   core-restarts = refl
 
   pub core-local : (key : ℕ) (asked : Time) → singleOf c a (LocalRead a key asked) ≡ coreOf c (LocalRead a key asked)
-  unfolding singleOf oneOf coreOf rulesOf doneOf
+  unfolding singleOf oneOf coreOf rowOf
   core-local key asked = in-place _ _ (placed c a (localDone (serverAt c a) key) (localRules (serverAt c a) key asked))
 
   pub core-majority : (key : ℕ) (asked : Time) → singleOf c a (MajorityRead a key asked) ≡ coreOf c (MajorityRead a key asked)
-  unfolding singleOf oneOf coreOf rulesOf doneOf
+  unfolding singleOf oneOf coreOf rowOf
   core-majority key asked = in-place _ _ (placed c a (majorityDone (serverAt c a) key) (majorityRules (serverAt c a) key asked))
 
   module _ (b : ℕ) where
@@ -66,13 +66,13 @@ module _ (c : Cluster) (a : ℕ) where
     apart-place x y e = ap (λ (o : Outcome). decided (refusingAll c) o (apart c a b [])) e
 
     pub core-hears : pairOf c a b (Hears a b) ≡ coreOf c (Hears a b)
-    unfolding pairOf oneOf coreOf rulesOf doneOf
+    unfolding pairOf oneOf coreOf rowOf
     core-hears = refl
 
     pub core-pulls : pairOf c a b (Pulls a b) ≡ coreOf c (Pulls a b)
-    unfolding pairOf oneOf coreOf rulesOf doneOf
+    unfolding pairOf oneOf coreOf rowOf
     core-pulls = apart-place _ _ (placed c a (pullDone (serverAt c a) (serverAt c b)) (pullRules (serverAt c a) (serverAt c b)))
 
     pub core-rolls-back : pairOf c a b (RollsBack a b) ≡ coreOf c (RollsBack a b)
-    unfolding pairOf oneOf coreOf rulesOf doneOf
+    unfolding pairOf oneOf coreOf rowOf
     core-rolls-back = apart-place _ _ (placed c a (rollDone (serverAt c a) (serverAt c b)) (rollRules (serverAt c a) (serverAt c b)))

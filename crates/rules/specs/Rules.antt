@@ -37,43 +37,32 @@ inRange c a = (ltb a (serverCount c), OutOfRange)
 abbrev pub apart : Cluster → ℕ → ℕ → Rules → Rules
 apart c a b rs = inRange c a ∷ inRange c b ∷ (not (eqb a b), OutOfRange) ∷ rs
 
--- for each kind, what has to hold, in the order in which it is refused
-unfoldable pub rulesOf : Cluster → Step → Rules
-rulesOf c (Start n) = startRules n
-rulesOf c (Elect a m) = electRules c a m
-rulesOf c (StepDown a) = inRange c a ∷ downRules (serverAt c a)
-rulesOf c (Hears a b) = apart c a b []
-rulesOf c (Pulls a b) = apart c a b (pullRules (serverAt c a) (serverAt c b))
-rulesOf c (RollsBack a b) = apart c a b (rollRules (serverAt c a) (serverAt c b))
-rulesOf c (Writes a key value) = inRange c a ∷ writeRules (serverAt c a) key value
-rulesOf c (Advances a) = advanceRules c a
-rulesOf c (WallClock a) = inRange c a ∷ clockRules (serverAt c a)
-rulesOf c (Restarts a) = inRange c a ∷ []
-rulesOf c (LocalRead a key asked) = inRange c a ∷ localRules (serverAt c a) key asked
-rulesOf c (MajorityRead a key asked) = inRange c a ∷ majorityRules (serverAt c a) key asked
-rulesOf c (Acknowledged a k n term) = acknowledgeRules c a k n term
-rulesOf c ClocksAgree = []
-
 -- server a as a step left it, the others unchanged, and its answer
 abbrev pub putBack : Cluster → ℕ → Stepped → Outcome
 putBack c a o = record { cluster = withServer c a (o .server); answer = o .answer }
 
--- for each kind, the record afterwards and the answer, where no rule is broken
-unfoldable pub doneOf : Cluster → Step → Outcome
-doneOf c (Start n) = startDone n
-doneOf c (Elect a m) = electDone c a m
-doneOf c (StepDown a) = putBack c a (downDone (serverAt c a))
-doneOf c (Hears a b) = putBack c a (hearsOf (serverAt c a) (serverAt c b))
-doneOf c (Pulls a b) = putBack c a (pullDone (serverAt c a) (serverAt c b))
-doneOf c (RollsBack a b) = putBack c a (rollDone (serverAt c a) (serverAt c b))
-doneOf c (Writes a key value) = putBack c a (writeDone (serverAt c a) key value)
-doneOf c (Advances a) = advanceDone c a
-doneOf c (WallClock a) = putBack c a (clockDone (serverAt c a))
-doneOf c (Restarts a) = putBack c a (restartsOf (serverAt c a))
-doneOf c (LocalRead a key asked) = putBack c a (localDone (serverAt c a) key)
-doneOf c (MajorityRead a key asked) = putBack c a (majorityDone (serverAt c a) key)
-doneOf c (Acknowledged a k n term) = acknowledgeDone c a n
-doneOf c ClocksAgree = agreesOf c
+-- 01's table of steps, a row a kind: what has to hold, in the order in which it is refused; the record afterwards and the answer
+unfoldable pub rowOf : Cluster → Step → Rules × Outcome
+rowOf c (Start n) = (startRules n, startDone n)
+rowOf c (Elect a m) = (electRules c a m, electDone c a m)
+rowOf c (StepDown a) = (inRange c a ∷ downRules (serverAt c a), putBack c a (downDone (serverAt c a)))
+rowOf c (Hears a b) = (apart c a b [], putBack c a (hearsOf (serverAt c a) (serverAt c b)))
+rowOf c (Pulls a b) = (apart c a b (pullRules (serverAt c a) (serverAt c b)), putBack c a (pullDone (serverAt c a) (serverAt c b)))
+rowOf c (RollsBack a b) = (apart c a b (rollRules (serverAt c a) (serverAt c b)), putBack c a (rollDone (serverAt c a) (serverAt c b)))
+rowOf c (Writes a key value) = (inRange c a ∷ writeRules (serverAt c a) key value, putBack c a (writeDone (serverAt c a) key value))
+rowOf c (Advances a) = (advanceRules c a, advanceDone c a)
+rowOf c (WallClock a) = (inRange c a ∷ clockRules (serverAt c a), putBack c a (clockDone (serverAt c a)))
+rowOf c (Restarts a) = (inRange c a ∷ [], putBack c a (restartsOf (serverAt c a)))
+rowOf c (LocalRead a key asked) = (inRange c a ∷ localRules (serverAt c a) key asked, putBack c a (localDone (serverAt c a) key))
+rowOf c (MajorityRead a key asked) = (inRange c a ∷ majorityRules (serverAt c a) key asked, putBack c a (majorityDone (serverAt c a) key))
+rowOf c (Acknowledged a k n term) = (acknowledgeRules c a k n term, acknowledgeDone c a n)
+rowOf c ClocksAgree = ([], agreesOf c)
+
+abbrev pub rulesOf : Cluster → Step → Rules
+rulesOf c s = rowOf c s .0
+
+abbrev pub doneOf : Cluster → Step → Outcome
+doneOf c s = rowOf c s .1
 
 -- the step on a record that needn't be looked at
 unfoldable pub coreOf : Cluster → Step → Outcome

@@ -26,7 +26,7 @@ use Rattle.pairs.specs.Pulls.{tookOf}
 use Rattle.singles.specs.Writes.{wroteOf}
 use Rattle.wholes.specs.Elects.{notBehind, mayVote, allMayVote}
 use Rattle.wholes.specs.Advances.{backs, passes, highestPassing}
-use Rattle.rules.specs.Rules.{rulesOf, doneOf, coreOf, stepOf}
+use Rattle.rules.specs.Rules.{rowOf, coreOf, stepOf}
 use Rattle.rules.specs.Runs.{runOf}
 use Rattle.safety.specs.Promise.{StepsFrom, firstOf, holds, Kept}
 use Rattle.safety.proofs.Promise.{demand-3}
@@ -45,7 +45,7 @@ build term value l = record { term = term; key = 5; value = value; time = record
 
 -- the record at the moment, before the rollback, and at the end
 pub moment : Cluster
-unfolding every count highest eachFrom isBefore sameTime laterOf tickOf sameEntry entryAt equalAt commonBeginning latestValue appended entryOk follows placeOk inOrder restZero logOk startedOf votedOf member isWithin numbersOk countedOk zeroOk serverOk wellFormed tookOf wroteOf notBehind mayVote allMayVote backs passes highestPassing rulesOf doneOf coreOf stepOf
+unfolding every count highest eachFrom isBefore sameTime laterOf tickOf sameEntry entryAt equalAt commonBeginning latestValue appended entryOk follows placeOk inOrder restZero logOk startedOf votedOf member isWithin numbersOk countedOk zeroOk serverOk wellFormed tookOf wroteOf notBehind mayVote allMayVote backs passes highestPassing rowOf coreOf stepOf
 moment = runOf (freshCluster 3) until
 
 pub between : Cluster

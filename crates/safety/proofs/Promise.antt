@@ -33,7 +33,7 @@ use Rattle.steps.specs.declared.Refusal.{Refusal}
 use Rattle.steps.specs.declared.Outcome.{Outcome}
 use Rattle.steps.specs.Ranges.{FitsStep}
 use Rattle.singles.specs.MajorityRead.{commitTime, covered}
-use Rattle.rules.specs.Rules.{rulesOf, doneOf, stepOf}
+use Rattle.rules.specs.Rules.{rowOf, stepOf}
 use Rattle.rules.specs.Runs.{runOf}
 use Rattle.rules.proofs.Keeps.{step-fits}
 use Rattle.safety.proofs.Theory.Cluster.{Holds}
@@ -81,7 +81,7 @@ record Answered (c : Cluster) (q key : ℕ) (asked : Time) (v : ℕ) : Type 0 wh
   value : latestValue key (covered (serverAt c q)) ≡ v
 
 answered : (c : Cluster) (q key : ℕ) (asked : Time) (v : ℕ) (t : Time) → stepOf c (MajorityRead q key asked) .answer ≡ Value v t → Answered c q key asked v
-unfolding rulesOf doneOf
+unfolding rowOf
 answered c q key asked v t a = go (comes c (MajorityRead q key asked))
   where
     answers : {o : Outcome} → stepOf c (MajorityRead q key asked) ≡ o → o .answer ≡ Value v t

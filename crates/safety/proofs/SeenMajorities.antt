@@ -23,7 +23,7 @@ use Rattle.cluster.proofs.Masks.{within-member, within-count}
 use Rattle.steps.specs.declared.Step.the-variants.{Elect, Advances}
 use Rattle.wholes.specs.Elects.{notBehind, mayVote, allMayVote, newTerm}
 use Rattle.wholes.specs.Advances.{backs, backers, passes, highestPassing, committedOf}
-use Rattle.rules.specs.Rules.{rulesOf, doneOf}
+use Rattle.rules.specs.Rules.{rowOf}
 use Rattle.safety.proofs.Theory.Quorum.{Quorums, Majority}
 use Rattle.safety.proofs.Theory.Cluster.{Server, NotBehind}
 use Rattle.safety.proofs.Theory.Steps.{Voted, Backs, elects}
@@ -93,7 +93,7 @@ passing {c} {s} {n} e =
 
 module _ {𝓠 : Quorums} (c : Cluster) (f : Fits c) (most : (P : ℕ → Type 0) → Majority (serverCount c) P → 𝓠 .Most P) where
   pub sees-elect : (a m : ℕ) → m < 2 ^ bits → Sees 𝓠 c (Elect a m)
-  unfolding rulesOf doneOf allMayVote mayVote
+  unfolding rowOf allMayVote mayVote
   sees-elect a m fits h =
       elects a (member m)
       (record {
@@ -123,7 +123,7 @@ module _ {𝓠 : Quorums} (c : Cluster) (f : Fits c) (most : (P : ℕ → Type 0
       changed i e = changed-at (votedOf a m (newTerm c a)) c i (omega (arith, below i e, f .slots))
 
   pub sees-advance : (a : ℕ) → Sees 𝓠 c (Advances a)
-  unfolding rulesOf doneOf highestPassing
+  unfolding rowOf highestPassing
   sees-advance a h =
       let s = serverAt c a in
       let n = highestPassing c s in

@@ -21,7 +21,7 @@ use Rattle.singles.specs.StepsDown.{downOf}
 use Rattle.singles.specs.WallClock.{tickedOf}
 use Rattle.singles.specs.Restarts.{restartedOf}
 use Rattle.wholes.specs.ClocksAgree.{greatestClock}
-use Rattle.rules.specs.Rules.{rulesOf, doneOf}
+use Rattle.rules.specs.Rules.{rowOf, rulesOf, doneOf}
 use Rattle.safety.proofs.Theory.Quorum.{Quorums}
 use Rattle.safety.proofs.Theory.Cluster.{Server}
 use Rattle.safety.proofs.Theory.Steps.{Settles, stays, restarts, hears, Rests, Goes}
@@ -74,35 +74,35 @@ module _ {𝓠 : Quorums} (c : Cluster) (f : Fits c) where
   quietly a l s r t = alone (others c f a l s) (rw (here c f a l s) (record { rests = r; settles = t }))
 
   pub sees-down : (a : ℕ) → Sees 𝓠 c (StepDown a)
-  unfolding rulesOf doneOf
+  unfolding rowOf
   sees-down a h = quietly a (h .0) (downOf (serverAt c a)) (lowered (view c a) (view c a .commit)) (stays refl)
 
   pub sees-restart : (a : ℕ) → Sees 𝓠 c (Restarts a)
-  unfolding rulesOf doneOf
+  unfolding rowOf
   sees-restart a h = quietly a (h .0) (restartedOf (serverAt c a)) (lowered (view c a) 0) (restarts refl)
 
   pub sees-hears : (a b : ℕ) → Sees 𝓠 c (Hears a b)
-  unfolding rulesOf doneOf
+  unfolding rowOf
   sees-hears a b h =
       quietly a (h .0) (heardOf (serverAt c a) (serverAt c b)) (heard-rests (serverAt c a) (serverAt c b)) (heard-settles c a b)
 
   pub sees-clock : (a : ℕ) → Sees 𝓠 c (WallClock a)
-  unfolding rulesOf doneOf
+  unfolding rowOf
   sees-clock a h = not-shown c f a (h .0) (tickedOf (serverAt c a)) refl
 
   pub sees-local : (a key : ℕ) (asked : Time) → Sees 𝓠 c (LocalRead a key asked)
-  unfolding rulesOf doneOf
+  unfolding rowOf
   sees-local a key asked h = not-shown c f a (h .0) (serverAt c a) refl
 
   pub sees-majority : (a key : ℕ) (asked : Time) → Sees 𝓠 c (MajorityRead a key asked)
-  unfolding rulesOf doneOf
+  unfolding rowOf
   sees-majority a key asked h = not-shown c f a (h .0) (serverAt c a) refl
 
 pub sees-acknowledged : {𝓠 : Quorums} (c : Cluster) (a k n term : ℕ) → Sees 𝓠 c (Acknowledged a k n term)
-unfolding rulesOf doneOf
+unfolding rowOf
 sees-acknowledged c a k n term h = unchanged (λ i. refl)
 
 pub sees-agree : {𝓠 : Quorums} (c : Cluster) → Sees 𝓠 c ClocksAgree
-unfolding rulesOf doneOf
+unfolding rowOf
 sees-agree c h =
     unchanged (λ i. changed-view (clockedOf (c .count) (greatestClock c)) c i (clocked-seen (c .count) (greatestClock c) i (serverAt c i)))

@@ -28,7 +28,7 @@ use Rattle.steps.specs.declared.Refusal.the-variants.{BelowCommitPoint}
 use Rattle.steps.proofs.Decided.{Broken, here as broken-here, later}
 use Rattle.pairs.specs.Pulls.{tookOf}
 use Rattle.pairs.specs.RollsBack.{common, rollRules}
-use Rattle.rules.specs.Rules.{apart, rulesOf, doneOf}
+use Rattle.rules.specs.Rules.{rowOf, apart}
 use Rattle.safety.proofs.Theory.Quorum.{Quorums}
 use Rattle.safety.proofs.Theory.Cluster.{Agree, Server, Seen}
 use Rattle.safety.proofs.Theory.Steps.{Copies, pulls, rollsBack, Goes, takes, Fresh, Walk}
@@ -73,7 +73,7 @@ last-equal s t e = ap seenEntry (go (or-cases (eqb (lengthOf (s .log)) 0) _ e))
     go (inr h) = equal-at (live (s .log)) (live (t .log)) (lengthOf (s .log)) h .same
 
 pub sees-roll : {𝓠 : Quorums} (c : Cluster) → Fits c → (a b : ℕ) → Sees 𝓠 c (RollsBack a b)
-unfolding rulesOf doneOf
+unfolding rowOf
 sees-roll c f a b h =
     let s = serverAt c a in
     let t = serverAt c b in
@@ -85,7 +85,7 @@ sees-roll c f a b h =
 
 module _ {𝓠 : Quorums} {u : Seen} (c : Cluster) (f : Fits c) (g : Good c) (start : Fresh u) (w : Walk 𝓠 u (view c)) where
   pub sees-pull : (a b : ℕ) → Sees 𝓠 c (Pulls a b)
-  unfolding rulesOf doneOf
+  unfolding rowOf
   sees-pull a b h =
       let s = serverAt c a in
       let t = serverAt c b in

@@ -23,7 +23,7 @@ use Rattle.cluster.specs.Servers.{serverCount, serverAt}
 use Rattle.cluster.proofs.Good.{Good, ServerGood}
 use Rattle.steps.specs.declared.Step.the-variants.{Writes}
 use Rattle.singles.specs.Writes.{ticks, tickTime, entryOf, wroteOf}
-use Rattle.rules.specs.Rules.{rulesOf, doneOf}
+use Rattle.rules.specs.Rules.{rowOf}
 use Rattle.safety.proofs.Theory.Quorum.{Quorums}
 use Rattle.safety.proofs.Theory.Cluster.{Server}
 use Rattle.safety.proofs.Theory.Steps.{writes}
@@ -45,7 +45,7 @@ later-tick s f g h =
     (then-before _ (s .time) _ (g .last-time) (tick-after (s .wall) (s .time) _ (ticked-to _ h)))
 
 pub sees-write : {𝓠 : Quorums} (c : Cluster) → Fits c → Good c → (a key value : ℕ) → Sees 𝓠 c (Writes a key value)
-unfolding rulesOf doneOf wroteOf
+unfolding rowOf wroteOf
 sees-write c f g a key value h =
     let s = serverAt c a in
     let t = tickTime (tickOf (s .wall) (s .time)) in

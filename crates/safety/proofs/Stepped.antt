@@ -23,7 +23,7 @@ use Rattle.steps.specs.Ranges.{FitsStep}
 use Rattle.steps.specs.Refusals.{refusalNumber, Rules}
 use Rattle.steps.specs.Answers.{refusingAll}
 use Rattle.steps.proofs.Decided.{Clear, Broken, here, later, clear-or-broken, decided-clear, decided-broken}
-use Rattle.rules.specs.Rules.{rulesOf, doneOf, coreOf, isStart, stepOf}
+use Rattle.rules.specs.Rules.{rowOf, rulesOf, doneOf, coreOf, isStart, stepOf}
 use Rattle.safety.proofs.Theory.Quorum.{Quorums, Majority}
 use Rattle.safety.proofs.Theory.Steps.{Goes, Walk}
 use Rattle.safety.proofs.Theory.View.{view}
@@ -79,7 +79,7 @@ module _ {n : ℕ} {some : 0 < n} {c : Cluster} (now : Now n some c) where
 
   done-next : (s : Step) → FitsStep s → (isStart s ≡ true → doneOf c s .answer ≢ Done) → (isStart s || wellFormed c) ≡ true
       → Clear (rulesOf c s) → Next (majorities n some) c (doneOf c s .cluster)
-  unfolding doneOf
+  unfolding rowOf
   done-next (Start k) f no-start wf h = absurd (no-start refl refl)
   done-next (Elect a m) f no-start wf h = record { goes = sees-elect c (now .fits) most a m (f .1) h; counted = refl }
   done-next (StepDown a) f no-start wf h = record { goes = sees-down c (now .fits) a h; counted = refl }
@@ -129,7 +129,7 @@ isRefused (Value value time) = false
 isRefused (Refused r) = true
 
 done-answers : (c : Cluster) (s : Step) → isRefused (doneOf c s .answer) ≡ false
-unfolding doneOf
+unfolding rowOf
 done-answers c (Start k) = refl
 done-answers c (Elect a m) = refl
 done-answers c (StepDown a) = refl
@@ -147,7 +147,7 @@ done-answers c ClocksAgree = refl
 
 module _ {n : ℕ} {some : 0 < n} {c : Cluster} (now : Now n some c) where
   broken-9 : (s : Step) → (isStart s || wellFormed c) ≡ true → Broken (rulesOf c s) BelowCommitPoint → ⊥
-  unfolding rulesOf
+  unfolding rowOf
   broken-9 (Start k) wf b = not-broken (omega arith) b refl
   broken-9 (Elect a m) wf b = not-broken (omega arith) b refl
   broken-9 (StepDown a) wf b = not-broken (omega arith) b refl

@@ -1,6 +1,6 @@
 -- `rules::core` meets its contract. Assumes nothing.
 use Rattle.rules.proofs.Parts.{core-down, core-hears, core-pulls, core-rolls-back, core-writes, core-clock, core-restarts, core-local, core-majority}
-use Rattle.rules.specs.Rules.{rulesOf, doneOf, coreOf}
+use Rattle.rules.specs.Rules.{rowOf, coreOf}
 use mathlib.Core.Path.{sym, ap, _∙_}
 use borrow.Author.Needs.{needs}
 use Rattle.rules.proofs.core.Statement.{statement}
@@ -145,11 +145,11 @@ clocks-agree-requires : tie.Need-clocks-agree-requires
 clocks-agree-requires c κs = search needs
 
 returns : tie.Need-returns
-unfolding coreOf rulesOf doneOf
+unfolding coreOf rowOf
 returns c = let e = c .before .before .step .given .1 in c .starts .ensures ∙ sym (ap (coreOf (c .before .before .before .before .args .c)) e)
 
 returns-2 : tie.Need-returns-2
-unfolding coreOf rulesOf doneOf
+unfolding coreOf rowOf
 returns-2 c = let e = c .before .before .step2 .given .1 in c .elects .ensures ∙ sym (ap (coreOf (c .before .before .before .before .args .c)) e)
 
 returns-3 : tie.Need-returns-3
@@ -168,7 +168,7 @@ returns-7 : tie.Need-returns-7
 returns-7 c = let g = c .before .before .step7 .given in c .single2 .ensures ∙ core-writes (c .before .before .before .before .args .c) (g .0 .0) (g .0 .1 .0) (g .0 .1 .1 .0) ∙ sym (ap (coreOf (c .before .before .before .before .args .c)) (g .1))
 
 returns-8 : tie.Need-returns-8
-unfolding coreOf rulesOf doneOf
+unfolding coreOf rowOf
 returns-8 c = let e = c .before .before .step8 .given .1 in c .advances .ensures ∙ sym (ap (coreOf (c .before .before .before .before .args .c)) e)
 
 returns-9 : tie.Need-returns-9
@@ -184,11 +184,11 @@ returns-12 : tie.Need-returns-12
 returns-12 c = let g = c .before .before .step12 .given in c .single6 .ensures ∙ core-majority (c .before .before .before .before .args .c) (g .0 .0) (g .0 .1 .0) (g .0 .1 .1 .0) ∙ sym (ap (coreOf (c .before .before .before .before .args .c)) (g .1))
 
 returns-13 : tie.Need-returns-13
-unfolding coreOf rulesOf doneOf
+unfolding coreOf rowOf
 returns-13 c = let e = c .before .before .step13 .given .1 in c .acknowledged .ensures ∙ sym (ap (coreOf (c .before .before .before .before .args .c)) e)
 
 returns-14 : tie.Need-returns-14
-unfolding coreOf rulesOf doneOf
+unfolding coreOf rowOf
 returns-14 c = c .clocks-agree .ensures ∙ sym (ap (coreOf (c .before .before .before .args .c)) (c .before .enum-told .given .1))
 
 pub core-spec : {M : Type 1} → statement M
