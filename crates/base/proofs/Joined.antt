@@ -1,12 +1,12 @@
 -- Laws of `joinedAt`, for a loop that copies the first elements of one list over another. Assumes nothing.
 use mathlib.Core.Path.{_≡_, refl, ap, sym, _∙_}
-use mathlib.Core.List.{List, [], _∷_, _++_, append-nil}
-use Prim.Native.Nat.{ℕ, zero, suc, _+_, _-_, _<_, _≤_, min}
+use mathlib.Core.List.{List, _++_}
+use Prim.Native.Nat.{ℕ, suc, _+_, _-_, _<_, _≤_}
 use native.Mathlib.Nat.{le-of-lt}
 use native.Mathlib.Numerals.{add-one}
 use native.Mathlib.Omega.{arith}
 use lib.ListN.{length, getD, set, take, drop, length-take, length-drop, length-append, List·getD-append, take-append-drop, drop-of-length-le}
-use lib.Seq.{drop-cons, take-suc, set-at, append-snoc, length-take-le, take-all, getD-take, getD-drop, getD-append-add, take-take}
+use lib.Seq.{drop-cons, take-suc, set-at, append-snoc, length-take-le, take-all, getD-take, getD-drop, getD-append-add}
 use Rattle.base.specs.Lists.{joinedAt}
 
 module _ {A : Type 0} where

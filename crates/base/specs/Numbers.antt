@@ -1,5 +1,5 @@
 -- Tests on the numbers below a bound: all of them, how many, the highest, the greatest of a value. Assumes nothing.
-use mathlib.Core.Bool.{Bool, true, false, cond, _&&_}
+use mathlib.Core.Bool.{Bool, true, cond, _&&_}
 use Prim.Native.Nat.{ℕ, zero, suc, _+_, max}
 
 -- every number below n passes

@@ -1,11 +1,11 @@
 -- The fresh cluster of 2 to 7 servers: each counted server is fresh, the record is well formed and fits. Assumes nothing.
-use mathlib.Core.Path.{_≡_, refl, ap, sym, _∙_, subst}
+use mathlib.Core.Path.{_≡_, refl, ap, _∙_}
 use mathlib.Core.Logic.{⊎-elim}
 use mathlib.Core.Bool.{true, false}
 use mathlib.Core.List.{[]}
-use Prim.Native.Nat.{ℕ, _<_, _≤_, _^_}
+use Prim.Native.Nat.{ℕ, _<_, _≤_}
 use native.Mathlib.Omega.{arith}
-use lib.ListN.{length, getD, replicate, getD-replicate, length-replicate}
+use lib.ListN.{getD-replicate}
 use borrow.Author.Tests.{lt-ltb, le-ltb}
 use Rattle.base.proofs.Bools.{not-both}
 use Rattle.base.proofs.Each.{length-eachFrom}
@@ -15,10 +15,9 @@ use Rattle.clock.specs.Times.{zeroTime}
 use Rattle.clock.proofs.Order.{before-itself}
 use Rattle.log.specs.Entries.{zeroEntry, entryAt}
 use Rattle.log.specs.Logs.{logLimit, emptyLog}
-use Rattle.log.specs.Ranges.{FitsEntry, FitsLog}
+use Rattle.log.specs.Ranges.{FitsLog}
 use Rattle.log.proofs.Tidy.{tidy-empty}
-use Rattle.log.proofs.Orderly.{Orderly, LogGood}
-use Rattle.cluster.specs.declared.Server.{Server}
+use Rattle.log.proofs.Orderly.{Orderly}
 use Rattle.cluster.specs.Servers.{mostServers, fewestServers, zeroServer, freshServer, pastServer, serverAt, startedOf, freshCluster, zeroCluster}
 use Rattle.cluster.specs.Ranges.{FitsServer, Fits}
 use Rattle.cluster.specs.WellFormed.{wellFormed}

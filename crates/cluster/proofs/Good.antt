@@ -1,18 +1,18 @@
 -- A well-formed record as facts: one field for each clause of 01, and back. Assumes nothing.
-use mathlib.Core.Path.{_≡_, refl, ap, sym, _∙_, subst}
+use mathlib.Core.Path.{_≡_, refl, ap, sym, _∙_}
 use mathlib.Core.Bool.{Bool, true, false, cond, not, _&&_}
 use mathlib.Core.Logic.{⊎-elim}
 use Prim.Native.Nat.{ℕ, _<_, _≤_}
 use native.Mathlib.Omega.{arith}
 use lib.Dec.{eqb, ltb, leb}
-use lib.ListN.{length, getD, replicate, getD-replicate}
+use lib.ListN.{length, replicate, getD-replicate}
 use lib.Seq.{ext-getD}
-use borrow.Author.Tests.{leb-true, le-leb, eqb-true, eq-eqb, lt-ltb, le-ltb, not-true}
+use borrow.Author.Tests.{leb-true, le-leb, eqb-true, lt-ltb, le-ltb, not-true}
 use Rattle.base.specs.Numbers.{every}
 use Rattle.base.proofs.Bools.{and-both, and-left, and-right}
 use Rattle.base.proofs.Every.{every-at, every-all}
 use Rattle.base.proofs.Facts.{lt-or-le}
-use Rattle.clock.specs.Times.{zeroTime, isBefore, sameTime}
+use Rattle.clock.specs.Times.{zeroTime, isBefore}
 use Rattle.clock.proofs.Order.{sameTime-eq, sameTime-refl}
 use Rattle.log.specs.declared.Log.{Log}
 use Rattle.log.specs.Entries.{zeroEntry, appliedTime}
@@ -24,7 +24,7 @@ use Rattle.cluster.specs.declared.Server.{Server}
 use Rattle.cluster.specs.declared.Cluster.{Cluster}
 use Rattle.cluster.specs.Servers.{fewestServers, mostServers, zeroServer, serverAt}
 use Rattle.cluster.specs.WellFormed.{numbersOk, countedOk, zeroOk, serverOk, wellFormed}
-use Rattle.cluster.specs.Ranges.{FitsServer, Fits}
+use Rattle.cluster.specs.Ranges.{Fits}
 
 -- ---- a counted server
 

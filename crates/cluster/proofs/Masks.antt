@@ -1,16 +1,16 @@
 -- The language's count of a mask's ones is the number of members; two majorities share a member. Assumes nothing.
 use mathlib.Core.Path.{_≡_, refl, ap, ap₂, sym, _∙_}
 use mathlib.Core.Bool.{Bool, true, false, cond, not, _||_}
-use mathlib.Core.Logic.{_⊎_, inl, inr, ⊎-elim}
+use mathlib.Core.Logic.{_⊎_, ⊎-elim}
 use Prim.Native.Nat.{ℕ, zero, suc, _/_, _%_, _^_, _+_, _-_, _*_, _<_, _≤_}
 use native.Mathlib.Nat.{pow-suc, mul-comm, div-div-eq-div-mul, div-eq-of-lt, div-lt-iff-lt-mul, lt-of-lt-of-le}
 use native.Mathlib.Omega.{arith}
 use lib.Dec.{eqb, ltb}
 use lib.Count.{ones, onesIn, ones-step}
 use lib.Pow.{pow-mono, pow-pos}
-use borrow.Author.Tests.{eqb-true, eqb-false, ltb-true, ne-eqb, lt-ltb, le-ltb, eq-eqb}
-use Rattle.base.specs.Numbers.{every, count}
-use Rattle.base.proofs.Bools.{or-cases, or-left, or-right, not-both}
+use borrow.Author.Tests.{eqb-false, ltb-true, ne-eqb, lt-ltb, eq-eqb}
+use Rattle.base.specs.Numbers.{count}
+use Rattle.base.proofs.Bools.{or-right, not-both}
 use Rattle.base.proofs.Counting.{Both, count-meet, count-le}
 use Rattle.base.proofs.Every.{every-at, every-all}
 use Rattle.base.proofs.Facts.{lt-or-le}

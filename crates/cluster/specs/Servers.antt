@@ -1,6 +1,6 @@
 -- The fixed records of 01, and records with one server or all servers changed. Assumes nothing.
-use mathlib.Core.List.{List, []}
-use mathlib.Core.Bool.{Bool, true, false, cond}
+use mathlib.Core.List.{[]}
+use mathlib.Core.Bool.{false, cond}
 use Prim.Native.Nat.{ℕ, min}
 use lib.Dec.{eqb, ltb}
 use lib.ListN.{getD, set, replicate}

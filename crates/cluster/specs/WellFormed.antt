@@ -1,6 +1,5 @@
 -- Which records are well formed, as 01 words it. Assumes nothing.
 use mathlib.Core.Bool.{Bool, true, cond, not, _&&_}
-use Prim.Native.Nat.{ℕ}
 use lib.Dec.{eqb, ltb, leb}
 use Rattle.base.specs.Numbers.{every}
 use Rattle.clock.specs.Times.{zeroTime, isBefore, sameTime}

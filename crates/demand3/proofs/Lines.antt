@@ -7,13 +7,12 @@ use Rattle.cluster.specs.declared.Cluster.{Cluster}
 use Rattle.steps.specs.declared.Answer.the-variants.{Done}
 use Rattle.steps.specs.declared.Step.{Step}
 use Rattle.rules.specs.Rules.{isStart, stepOf}
-use Rattle.rules.specs.Runs.{runOf}
 use Rattle.frames.specs.declared.ReadStep.{ReadStep}
 use Rattle.frames.specs.declared.ReadStep.the-variants as R
 use Rattle.frames.specs.Steps.{readStep}
 use Rattle.frames.proofs.Steps.{read-step-fits}
 use Rattle.replay.specs.Texts.{respond, answerTo, recordAfter}
-use Rattle.safety.specs.Promise.{StepsFrom}
+use Rattle.safety.specs.Promise.{runOf, StepsFrom}
 use Rattle.demand3.specs.Promise.{Line, NoneBegins}
 use Rattle.demand3.proofs.Starts.{start-of, answer-is, answer-of}
 

@@ -19,14 +19,13 @@ use Rattle.steps.specs.Ranges.{FitsStep}
 use Rattle.steps.proofs.Decided.{Clear, Broken, here, later}
 use Rattle.wholes.specs.Starts.{startRules}
 use Rattle.rules.specs.Rules.{rowOf, rulesOf, isStart, stepOf}
-use Rattle.rules.specs.Runs.{runOf}
 use Rattle.rules.proofs.Outcomes.{Why, ill-formed, broken, StepDone, step-cases, refused-why}
 use Rattle.frames.specs.declared.ReadStep.{ReadStep}
 use Rattle.frames.specs.declared.ReadStep.the-variants as R
 use Rattle.frames.specs.Steps.{readStep}
 use Rattle.frames.proofs.Steps.{read-step-fits}
 use Rattle.replay.specs.Texts.{lines, respond, answerTo, recordAfter}
-use Rattle.safety.specs.Promise.{StepsFrom}
+use Rattle.safety.specs.Promise.{runOf, StepsFrom}
 use Rattle.safety.proofs.Promise.{demand-3}
 use Rattle.demand3.specs.Promise.{Line, Never9On, Never9InTexts}
 use Rattle.demand3.proofs.Starts.{start-of, Fresh, clear-fresh}

@@ -9,7 +9,7 @@ use Rattle.replay.specs.Texts.{recordAfter}
 use Rattle.safety.specs.Promise as S
 use Rattle.safety.specs.Promise.{Kept, momentOf, afterOf}
 use Rattle.safety.proofs.Promise.{demand-3}
-use Rattle.demand3.specs.Promise.{KeptFor, begun, moment, later, Promise, Promised}
+use Rattle.demand3.specs.Promise.{KeptFor, begun, moment, later, Promised}
 use Rattle.demand3.proofs.Starts.{answer-is, answer-of, Fresh, begins-fresh}
 use Rattle.demand3.proofs.Lines.{stepsIn, same-record, steps-from}
 use Rattle.demand3.proofs.Never9.{Came, came-fresh, line-9, came-after, lines-9}

@@ -15,7 +15,6 @@ use Rattle.steps.specs.declared.Answer.{Answer}
 use Rattle.steps.specs.declared.Answer.the-variants.{Done, Elected, Reached, Entry, Value, Refused}
 use Rattle.steps.specs.declared.Refusal.{Refusal}
 use Rattle.steps.specs.declared.Refusal.the-variants.{BelowCommitPoint}
-use Rattle.steps.specs.declared.Telling.{Telling}
 use Rattle.steps.specs.declared.Telling.the-variants.{Numbers, Refusing}
 use Rattle.steps.specs.Answers.{tellingOf}
 use Rattle.hex.specs.Digits.{radix, ten, char0, charA, charOf}

@@ -9,7 +9,6 @@ use Rattle.clock.specs.declared.Time.{Time}
 use Rattle.clock.specs.Times.{isBefore}
 use Rattle.cluster.specs.declared.Cluster.{Cluster}
 use Rattle.cluster.specs.Servers.{fewestServers, mostServers, serverAt, zeroCluster, freshCluster}
-use Rattle.steps.specs.declared.Step.{Step}
 use Rattle.steps.specs.declared.Step.the-variants.{Start, MajorityRead}
 use Rattle.steps.specs.declared.Answer.the-variants.{Done, Value, Refused}
 use Rattle.steps.specs.declared.Telling.the-variants.{Refusing}
@@ -19,7 +18,7 @@ use Rattle.frames.specs.declared.ReadAnswer.the-variants as A
 use Rattle.frames.specs.Steps.{readStep}
 use Rattle.frames.specs.Answers.{readAnswer}
 use Rattle.replay.specs.Texts.{lines, answerTo, recordAfter, answers}
-use Rattle.safety.specs.Promise.{StepsFrom, entryOf, Shows, Kept, momentOf, afterOf}
+use Rattle.safety.specs.Promise.{entryOf, Shows, Kept}
 
 abbrev pub Line : Type 0
 Line = List ℕ
@@ -104,14 +103,3 @@ Never9InTexts = (text : List ℕ) → Never9On zeroCluster (lines text)
 -- and no line of what the program writes then reads as refusal 9
 abbrev pub Never9Written : Type 0
 Never9Written = (text : List ℕ) (i : ℕ) → readAnswer (getD (lines (answers zeroCluster text)) i []) ≢ A.Telling (Refusing BelowCommitPoint)
-
--- and nothing of the promise over steps is lost: any run of steps from a fresh cluster is a stretch of some text
-pub record AsText (n : ℕ) (r₁ r₂ : List Step) : Type 0 where
-  pub text : List ℕ
-  pub stretch : Stretch text
-  pub moment-is : moment stretch ≡ momentOf n r₁
-  pub later-is : later stretch ≡ afterOf n r₁ r₂
-
-abbrev pub EveryRun : Type 0
-EveryRun = (n : ℕ) (r₁ r₂ : List Step) → fewestServers ≤ n → n ≤ mostServers → StepsFrom (freshCluster n) r₁ → StepsFrom (momentOf n r₁) r₂
-    → AsText n r₁ r₂

@@ -2,17 +2,17 @@
 use mathlib.Core.Path.{_≡_, refl, ap, sym, _∙_}
 use mathlib.Core.List.{List, [], _∷_}
 use mathlib.Core.Bool.{Bool, true, false, cond}
-use Prim.Native.Nat.{ℕ, zero, suc, _<_, _≤_, _+_, min}
+use Prim.Native.Nat.{ℕ, zero, suc, _<_, _≤_, _+_}
 use native.Mathlib.Numerals.{add-one}
 use native.Mathlib.Omega.{arith}
 use native.Mathlib.Nat.{le-of-suc-le-suc}
-use lib.ListN.{length, take, drop, getD, drop-of-length-le, length-take, take-append-drop}
+use lib.ListN.{length, take, drop, getD, drop-of-length-le, length-take}
 use lib.Seq.{drop-cons, getD-take, take-take}
 use Rattle.base.proofs.Bools.{not-both}
 use Rattle.base.proofs.Joined.{joined-same}
 use Rattle.log.specs.declared.Entry.{Entry}
 use Rattle.log.specs.declared.Log.{Log}
-use Rattle.log.specs.Entries.{zeroEntry, sameEntry, entryAt, commonBeginning}
+use Rattle.log.specs.Entries.{zeroEntry, sameEntry, commonBeginning}
 use Rattle.log.specs.Logs.{live, joined}
 use Rattle.log.proofs.Equal.{sameEntry-eq, sameEntry-refl}
 

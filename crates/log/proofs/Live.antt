@@ -9,7 +9,7 @@ use lib.Seq.{getD-take}
 use Rattle.log.specs.declared.Entry.{Entry}
 use Rattle.log.specs.declared.Log.{Log}
 use Rattle.log.specs.Entries.{zeroEntry, entryAt}
-use Rattle.log.specs.Logs.{logLimit, live, lengthOf}
+use Rattle.log.specs.Logs.{live, lengthOf}
 
 -- the length is the number of entries, cut at the slots
 pub length-live : (g : Log) (n : ℕ) → length (g .entries) ≡ n → lengthOf g ≡ min (g .len) n

@@ -1,14 +1,13 @@
 -- A log that a well-formed record may hold, as facts: one for each clause of 01, and back. Assumes nothing.
-use mathlib.Core.Path.{_≡_, refl, ap, sym, _∙_}
+use mathlib.Core.Path.{_≡_, refl, ap, _∙_}
 use mathlib.Core.List.{List}
-use mathlib.Core.Bool.{Bool, true, false, _&&_, _||_}
-use mathlib.Core.Logic.{_⊎_, inl, inr, ⊎-elim}
+use mathlib.Core.Bool.{true, _&&_, _||_}
+use mathlib.Core.Logic.{_⊎_, ⊎-elim}
 use Prim.Native.Nat.{ℕ, zero, suc, _<_, _≤_}
 use native.Mathlib.Omega.{arith}
 use lib.Dec.{eqb, ltb, leb}
 use lib.ListN.{length, getD, List·getD-eq-default}
-use borrow.Author.Tests.{leb-true, le-leb, eqb-true, ltb-true, lt-ltb, le-ltb}
-use Rattle.base.specs.Numbers.{every}
+use borrow.Author.Tests.{leb-true, le-leb, eqb-true, ltb-true, lt-ltb}
 use Rattle.base.proofs.Bools.{and-both, and-left, and-right, or-left, or-right, or-cases}
 use Rattle.base.proofs.Every.{every-at, every-all}
 use Rattle.base.proofs.Facts.{lt-or-le}

@@ -4,7 +4,7 @@ use mathlib.Core.List.{List, [], _∷_, _++_}
 use Prim.Native.Nat.{ℕ, zero, suc, _+_, _<_, _≤_}
 use native.Mathlib.Nat.{le-of-suc-le-suc}
 use native.Mathlib.Omega.{arith}
-use lib.ListN.{length, getD, take, length-append, List·getD-append}
+use lib.ListN.{length, take, length-append, List·getD-append}
 use lib.Seq.{getD-append-seam, ext-getD, getD-take, length-take-le}
 use Rattle.base.specs.Lists.{joinedAt}
 use Rattle.base.proofs.Joined.{length-joined, joined-low, joined-high}

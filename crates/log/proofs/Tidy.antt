@@ -1,13 +1,12 @@
 -- A log whose slots past its length are zero is its list of entries: what makes a log is the list operation on it. Assumes nothing.
-use mathlib.Core.Path.{_≡_, refl, ap, sym, _∙_, subst}
+use mathlib.Core.Path.{_≡_, ap, sym, _∙_}
 use mathlib.Core.List.{List, [], _∷_, _++_}
-use mathlib.Core.Bool.{cond}
 use mathlib.Core.Logic.{⊎-elim}
-use Prim.Native.Nat.{ℕ, suc, _+_, _-_, _<_, _≤_}
+use Prim.Native.Nat.{ℕ, _+_, _-_, _<_, _≤_}
 use native.Mathlib.Numerals.{add-one}
 use native.Mathlib.Omega.{arith}
-use lib.ListN.{length, getD, take, drop, set, replicate, length-take, length-append, length-replicate, getD-replicate, length-set, List·getD-eq-default, List·getD-append}
-use lib.Seq.{getD-append-add, getD-set-same, getD-set-other, take-suc-set, take-append-le, ext-getD, getD-take}
+use lib.ListN.{length, getD, set, replicate, length-take, length-append, length-replicate, getD-replicate, length-set, List·getD-eq-default, List·getD-append}
+use lib.Seq.{getD-append-add, getD-set-other, take-suc-set, ext-getD, getD-take}
 use borrow.Author.Tests.{lt-ltb}
 use Rattle.base.specs.Lists.{joinedAt}
 use Rattle.base.proofs.Facts.{lt-or-le}

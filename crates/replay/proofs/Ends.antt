@@ -1,12 +1,11 @@
 -- The end of a text: nothing is left, there is no room for the answer, or the rest is answered as a line. Assumes nothing.
-use mathlib.Core.Path.{_≡_, refl, sym, ap, _∙_}
+use mathlib.Core.Path.{_≡_, refl, ap, _∙_}
 use mathlib.Core.Bool.{Bool, true, false, cond}
 use mathlib.Core.List.{List}
 use Prim.Native.Nat.{ℕ, _<_, _≤_}
 use borrow.Author.Tests.{lt-ltb, le-ltb}
 use lib.Dec.{ltb}
 use lib.ListN.{length}
-use Rattle.cluster.specs.declared.Cluster.{Cluster}
 use Rattle.steps.specs.declared.Outcome.{Outcome}
 use Rattle.replay.specs.declared.Session.{Session}
 use Rattle.replay.specs.declared.Finished.{Finished}

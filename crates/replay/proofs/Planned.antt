@@ -1,15 +1,12 @@
 -- A plan that is carried out gives what the line gives, and names only servers of the record. Assumes nothing.
-use mathlib.Core.Path.{_≡_, refl, ap, sym, _∙_}
+use mathlib.Core.Path.{_≡_, refl, _∙_}
 use mathlib.Core.Bool.{Bool, true, false, cond, not, _||_}
-use mathlib.Core.Logic.{⊎-elim}
-use Prim.Native.Nat.{ℕ, _<_, _≤_}
-use native.Mathlib.Omega.{arith}
+use Prim.Native.Nat.{ℕ, _<_}
 use lib.Dec.{eqb, ltb}
 use borrow.Author.Tests.{ltb-true}
 use Rattle.cluster.specs.declared.Cluster.{Cluster}
 use Rattle.cluster.specs.Servers.{serverAt, serverCount}
 use Rattle.cluster.specs.WellFormed.{wellFormed}
-use Rattle.steps.specs.declared.Outcome.{Outcome}
 use Rattle.steps.specs.declared.Refusal.the-variants.{IllFormed, OutOfRange}
 use Rattle.steps.specs.declared.Step.{Step}
 use Rattle.steps.specs.declared.Step.the-variants as S

@@ -2,17 +2,16 @@
 use mathlib.Core.Path.{_≡_, refl, sym, ap, _∙_, subst}
 use mathlib.Core.Bool.{Bool, true, false, cond}
 use mathlib.Core.List.{List, [], _∷_, _++_, append-assoc, append-nil}
-use Prim.Native.Nat.{ℕ, zero, suc, _+_, _-_, _≤_, _<_}
+use Prim.Native.Nat.{ℕ, suc, _+_, _-_, _≤_, _<_}
 use native.Mathlib.Numerals.{add-one}
 use native.Mathlib.Omega.{arith}
-use borrow.Author.Tests.{lt-ltb, le-ltb, le-leb, lt-leb, eq-eqb, ne-eqb, eqb-true, ltb-true, ltb-false}
-use lib.Dec.{ltb, eqb, leb}
-use lib.ListN.{length, take, set, length-append, length-set, length-replicate}
-use lib.Seq.{take-suc-set, take-length}
+use borrow.Author.Tests.{le-ltb, le-leb, ne-eqb, eqb-true, ltb-true, ltb-false}
+use lib.Dec.{ltb, eqb}
+use lib.ListN.{length, take, set, length-append, length-set}
+use lib.Seq.{take-suc-set}
 use Rattle.steps.specs.declared.Answer.{Answer}
 use Rattle.steps.specs.declared.Outcome.{Outcome}
 use Rattle.steps.specs.Answers.{tellingOf}
-use Rattle.frames.specs.Steps.{readStep}
 use Rattle.frames.specs.Answers.{writeAnswer}
 use Rattle.frames.specs.Lines.{framed}
 use Rattle.frames.proofs.Lengths.{answer-line-length}

@@ -1,4 +1,5 @@
--- What a line is to do to the record: nothing, one server, or the whole record. Assumes nothing.
+-- What a line is to do to the record: nothing, one server, or the whole record. Nobody has to believe this: by `plan-does` a plan
+-- that is carried out gives what `Texts` says. Assumes nothing.
 use Prim.Native.Nat.{ℕ}
 use mathlib.Core.Bool.{Bool, cond, _||_}
 use lib.Dec.{eqb, ltb}

@@ -5,7 +5,7 @@ ghost use lib.ListN.{length};
 ghost use Rattle.frames.specs.Steps.{readStep};
 ghost use Rattle.replay.specs.Texts.{respond, lineOf};
 ghost use Rattle.replay.specs.Pieces.{answerLine, freshReader, begun, lineHeld, pushOf, placed, isEmpty, fedOf, fedOut, finishOf, finishOut};
-ghost use Rattle.replay.specs.Plans.{alone, apart, placeOf, planOf, carriedOut};
+ghost use Rattle.replay.specs.Plans.{alone, apart, placeOf, planOf};
 use cluster::Cluster;
 use frames::ReadStep;
 use steps::Answer;

@@ -1,4 +1,3 @@
 -- The step: a record and a step in, the next record and an answer out. Assumes nothing.
 pub mod Rules
 pub mod One
-pub mod Runs

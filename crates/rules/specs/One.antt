@@ -1,4 +1,5 @@
--- The kinds that change one server, as one function of it and of the server that it looks at. Assumes nothing.
+-- The kinds that change one server, as one function of it and of the server that it looks at. Nobody has to believe this: by the laws
+-- of `Parts` it comes to the rows of `Rules`. Assumes nothing.
 use mathlib.Core.List.{[], _∷_}
 use Prim.Native.Nat.{ℕ}
 use Rattle.cluster.specs.declared.Cluster.{Cluster}

@@ -27,8 +27,7 @@ use Rattle.singles.specs.Writes.{wroteOf}
 use Rattle.wholes.specs.Elects.{notBehind, mayVote, allMayVote}
 use Rattle.wholes.specs.Advances.{backs, passes, highestPassing}
 use Rattle.rules.specs.Rules.{rowOf, coreOf, stepOf}
-use Rattle.rules.specs.Runs.{runOf}
-use Rattle.safety.specs.Promise.{StepsFrom, firstOf, holds, Kept}
+use Rattle.safety.specs.Promise.{runOf, StepsFrom, firstOf, holds, Kept}
 use Rattle.safety.proofs.Promise.{demand-3}
 
 -- server 0 wins term 1 and writes build 41 under key 5; server 1 pulls it, and server 0's commit point covers it

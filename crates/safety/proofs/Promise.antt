@@ -22,7 +22,6 @@ use Rattle.log.proofs.Latest.{found, latest-found, found-le, found-key, found-l
 use Rattle.log.proofs.Live.{entryAt-take}
 use Rattle.cluster.specs.declared.Server.{Server}
 use Rattle.cluster.specs.declared.Cluster.{Cluster}
-use Rattle.cluster.specs.Ranges.{Fits}
 use Rattle.cluster.specs.Servers.{serverCount, serverAt, freshCluster}
 use Rattle.cluster.proofs.Fresh.{fits-fresh}
 use Rattle.steps.specs.declared.Step.{Step}
@@ -31,17 +30,15 @@ use Rattle.steps.specs.declared.Answer.{Answer}
 use Rattle.steps.specs.declared.Answer.the-variants.{Value, Refused}
 use Rattle.steps.specs.declared.Refusal.{Refusal}
 use Rattle.steps.specs.declared.Outcome.{Outcome}
-use Rattle.steps.specs.Ranges.{FitsStep}
 use Rattle.singles.specs.MajorityRead.{commitTime, covered}
 use Rattle.rules.specs.Rules.{rowOf, stepOf}
-use Rattle.rules.specs.Runs.{runOf}
 use Rattle.rules.proofs.Keeps.{step-fits}
 use Rattle.safety.proofs.Theory.Cluster.{Holds}
 use Rattle.safety.proofs.Theory.Steps.{Walk, stop, go}
 use Rattle.safety.proofs.Theory.Demand3.{LastFor, Demand3}
 use Rattle.safety.proofs.Theory.Time.{stamp}
 use Rattle.safety.proofs.Theory.View.{seenServer, view}
-use Rattle.safety.specs.Promise.{StepsFrom, Never9, entryOf, firstOf, holds, Shows, Kept, momentOf, Promised}
+use Rattle.safety.specs.Promise.{runOf, StepsFrom, Never9, entryOf, firstOf, holds, Shows, Kept, momentOf, Promised}
 use Rattle.safety.proofs.Quorum.{majorities, majority-count}
 use Rattle.safety.proofs.Time.{stamp-before, not-before-stamp}
 use Rattle.safety.proofs.Joins.{walk-on, commit-within}

@@ -21,9 +21,13 @@ use Rattle.steps.specs.declared.Answer.the-variants.{Done, Value, Refused}
 use Rattle.steps.specs.declared.Refusal.the-variants.{BelowCommitPoint}
 use Rattle.steps.specs.Ranges.{FitsStep}
 use Rattle.rules.specs.Rules.{isStart, stepOf}
-use Rattle.rules.specs.Runs.{runOf}
 
 -- ---- any steps in any order
+
+-- the record after the steps, in order
+abbrev pub runOf : Cluster → List Step → Cluster
+runOf c [] = c
+runOf c (s ∷ ss) = runOf (stepOf c s .cluster) ss
 
 -- steps from c on: each fits its bytes, and none is a start that succeeds, which would begin a new cluster; steps that are refused
 -- are among them
