@@ -184,6 +184,20 @@ fn put(out: &mut [u8], at: usize, a: Answer)
     out[at + frames::ANSWER_CHARS] = LINE_FEED;
 }
 
+// A session part of the way along a text.
+fn so_far(c: Cluster, r: Reader, taken: usize, wrote: usize) -> Fed
+    ensures { λ q. ⌜ q ≡ record { session = record { cluster = c; reader = r }; taken = taken; wrote = wrote } ⌝ }
+{
+    Fed {
+        session: Session {
+            cluster: c,
+            reader: r,
+        },
+        taken: taken,
+        wrote: wrote,
+    }
+}
+
 // Takes bytes of the text while the buffer has room for an answer line. The record stays in a local: one server is replaced a step.
 pub fn feed(s: Session, text: &[u8], out: &mut [u8]) -> Fed
     ensures result { λ r. ⌜ r ≡ fedOf s (now (text .entry)) (length (now (out .entry))) ⌝ }
@@ -193,63 +207,35 @@ pub fn feed(s: Session, text: &[u8], out: &mut [u8]) -> Fed
     let mut r = s.reader;
     let mut w: usize = 0;
     let mut i: usize = 0;
-    while i < text.len() {
-        if out.len() - w < ANSWER_LINE {
-            return Fed {
-                session: Session {
-                    cluster: c,
-                    reader: r,
-                },
-                taken: i,
-                wrote: w,
-            };
-        }
+    while i < text.len() && ANSWER_LINE <= out.len() - w {
         let b = text[i];
         i += 1;
         if b != LINE_FEED {
             r = pushed(r, b);
             continue;
         }
-        let read = step_held(r);
+        let size = cluster::server_count(c.count);
+        let formed = cluster::well_formed(c);
+        let p = plan_for(size, formed, step_held(r));
         r = fresh_reader();
-        let p = plan_for(
-            cluster::server_count(c.count),
-            cluster::well_formed(c),
-            read,
-        );
-        let mut answer = Answer::Done;
-        match p {
-            Plan::Refuse(x) => {
-                answer = Answer::Refused(x);
-            }
+        let answer = match p {
+            Plan::Refuse(x) => Answer::Refused(x),
             Plan::Server(a, b, step) => {
-                let x = c.servers[a];
-                let y = c.servers[b];
-                let o = rules::one(x, y, step);
+                let o = rules::one(c.servers[a], c.servers[b], step);
                 let d = o.server;
                 c.servers[a] = d;
-                let q = o.answer;
-                answer = q;
+                o.answer
             }
             Plan::Record(step) => {
                 let o = rules::core(c, step);
-                let d = o.cluster;
-                c = d;
-                let q = o.answer;
-                answer = q;
+                c = o.cluster;
+                o.answer
             }
-        }
+        };
         put(out, w, answer);
         w += ANSWER_LINE;
     }
-    Fed {
-        session: Session {
-            cluster: c,
-            reader: r,
-        },
-        taken: i,
-        wrote: w,
-    }
+    so_far(c, r, i, w)
 }
 
 // Whether nothing of a line was read.

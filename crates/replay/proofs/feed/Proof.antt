@@ -1,12 +1,13 @@
 -- `replay::feed` meets its contract. Assumes nothing.
 use Rattle.replay.specs.declared.Plan.{Plan}
+use Rattle.replay.specs.declared.Session.{Session}
 use Rattle.steps.specs.declared.Stepped.{Stepped}
 use Rattle.replay.specs.declared.Plan.the-variants.{Refuse, Server, Record}
 use Rattle.replay.proofs.Along.{Along, start, by-line, by-byte, stopped, ended}
 use Rattle.replay.proofs.Planned.{Inside, plan-does, plan-inside}
 use mathlib.Core.Bool.{Bool}
 use Rattle.replay.specs.Plans.{planOf, carriedOut}
-use Rattle.replay.specs.Pieces.{lineHeld}
+use Rattle.replay.specs.Pieces.{answerLine, lineHeld}
 use Rattle.replay.specs.Texts.{answerTo}
 use Rattle.frames.specs.Steps.{readStep}
 use Rattle.steps.specs.declared.Outcome.{Outcome}
@@ -14,7 +15,8 @@ use Rattle.cluster.specs.WellFormed.{wellFormed}
 use Rattle.cluster.specs.Servers.{serverCount, withServer}
 use lib.ListN.{length}
 use native.Mathlib.Omega.{arith}
-use Prim.Native.Nat.{ℕ, _-_}
+use Prim.Native.Nat.{ℕ, _-_, _≤_, _<_}
+use borrow.Author.Tests.{leb-true, leb-false}
 use mathlib.Core.Logic.{⊎-elim}
 use mathlib.Core.Path.{_≡_, sym, ap, _∙_}
 use borrow.Author.Needs.{needs}
@@ -27,36 +29,52 @@ Inv-loop text out₀ c₀ r₀ w₀ i₀ out c r w i = Along (record { cluster =
 abbrev μ-loop : tie.MeasureT-loop
 μ-loop text out₀ c₀ r₀ w₀ i₀ out c r w i = length text - i
 
+-- there is room for an answer line
+room : (c : tie.Then1 Inv-loop μ-loop) → answerLine ≤ length (c .before .before .before .before .before .before .before .args .out .now) - c .before .before .loop .w
+room c = let l = c .before .before .loop in omega (arith, leb-true answerLine (length (l .out) - l .w) (c .if1 .taken), l .inv .same)
+
+no-room : (c : tie.Else1 Inv-loop μ-loop) → length (c .before .before .before .before .before .before .before .args .out .now) - c .before .before .loop .w < answerLine
+no-room c = let l = c .before .before .loop in omega (arith, leb-false answerLine (length (l .out) - l .w) (c .if1 .left), l .inv .same)
+
+-- the session when the line feed came
+abbrev before : tie.After-plan-for Inv-loop μ-loop → Session
+before c = let l = c .before .before .before .before .before .before .before .before .loop in record { cluster = l .c; reader = l .r }
+
 -- the plan is that of the line that was read
-planned : (c : tie.After-plan-for Inv-loop μ-loop) → c .plan-for .result ≡ planOf (serverCount (c .before .before .before .before .before .before .before .before .before .loop .c)) (wellFormed (c .before .before .before .before .before .before .before .before .before .loop .c)) (readStep (lineHeld (c .before .before .before .before .before .before .before .before .before .loop .r)))
+planned : (c : tie.After-plan-for Inv-loop μ-loop) → c .plan-for .result ≡ planOf (serverCount (before c .cluster)) (wellFormed (before c .cluster)) (readStep (lineHeld (before c .reader)))
 planned c =
-    c .plan-for .ensures ∙ ap (λ (n : ℕ). planOf n (c .before .well-formed .result) (c .before .before .before .before .step-held .result)) (c .before .before .server-count .ensures)
-    ∙ ap (λ (t : Bool). planOf (serverCount (c .before .before .before .before .before .before .before .before .before .loop .c)) t (c .before .before .before .before .step-held .result)) (c .before .well-formed .ensures)
-    ∙ ap (planOf (serverCount (c .before .before .before .before .before .before .before .before .before .loop .c)) (wellFormed (c .before .before .before .before .before .before .before .before .before .loop .c))) (c .before .before .before .before .step-held .ensures)
+    let n = c .before .before .before .server-count in
+    let t = c .before .before .well-formed in
+    let s = c .before .step-held in
+    c .plan-for .ensures ∙ ap (λ (k : ℕ). planOf k (t .result) (s .result)) (n .ensures)
+    ∙ ap (λ (b : Bool). planOf (serverCount (before c .cluster)) b (s .result)) (t .ensures)
+    ∙ ap (planOf (serverCount (before c .cluster)) (wellFormed (before c .cluster))) (s .ensures)
 
 -- the servers that it names are there
 inside : (c : tie.After-known-told2 Inv-loop μ-loop) → Inside 7 (c .before .p2 .given .0 .0) (c .before .p2 .given .0 .1 .0)
 inside c =
-    let h = plan-inside _ _ _ _ _ _ (sym (planned (c .before .before .before)) ∙ c .before .p2 .given .1) in
+    let h = plan-inside _ _ _ _ _ _ (sym (planned (c .before .before .before .before)) ∙ c .before .p2 .given .1) in
     record { first = omega (arith, h .first); second = omega (arith, h .second) }
 
 -- a plan that was carried out gave what the line gives
-settled : (c : tie.After-plan-for Inv-loop μ-loop) (p : Plan) (o : Outcome) → c .plan-for .result ≡ p → o ≡ carriedOut (c .before .before .before .before .before .before .before .before .before .loop .c) p → o ≡ answerTo (c .before .before .before .before .before .before .before .before .before .loop .c) (lineHeld (c .before .before .before .before .before .before .before .before .before .loop .r))
+settled : (c : tie.After-plan-for Inv-loop μ-loop) (p : Plan) (o : Outcome) → c .plan-for .result ≡ p → o ≡ carriedOut (before c .cluster) p
+    → o ≡ answerTo (before c .cluster) (lineHeld (before c .reader))
 unfolding answerTo
-settled c p o e h = h ∙ ap (carriedOut (c .before .before .before .before .before .before .before .before .before .loop .c)) (sym e ∙ planned c) ∙ plan-does (c .before .before .before .before .before .before .before .before .before .loop .c) (readStep (lineHeld (c .before .before .before .before .before .before .before .before .before .loop .r)))
+settled c p o e h = h ∙ ap (carriedOut (before c .cluster)) (sym e ∙ planned c) ∙ plan-does (before c .cluster) (readStep (lineHeld (before c .reader)))
 
 -- the record and the answer after the line
-outcome : (c : tie.At-match-came Inv-loop μ-loop) → _≡_ {A = Outcome} (record { cluster = c .match .c; answer = c .match .answer }) (answerTo (c .before .before .before .before .before .before .before .before .before .before .loop .c) (lineHeld (c .before .before .before .before .before .before .before .before .before .before .loop .r)))
+outcome : (c : tie.At-match-came Inv-loop μ-loop) → _≡_ {A = Outcome} (record { cluster = c .match .c; answer = c .match .answer }) (answerTo (before (c .before .before) .cluster) (lineHeld (before (c .before .before) .reader)))
 unfolding carriedOut
 outcome c =
-    ⊎-elim (λ w. settled (c .before) (Refuse (w .1 .given .0 .0)) _ (w .1 .given .1) (λ i. record { cluster = w .3 i; answer = w .4 i }))
+    let at = c .before .before in
+    ⊎-elim (λ w. settled at (Refuse (w .1 .given .0 .0)) _ (w .1 .given .1) (λ i. record { cluster = w .3 i; answer = w .4 i }))
     (λ v. ⊎-elim
-    (λ w. settled (c .before) (Server (w .1 .given .0 .0) (w .1 .given .0 .1 .0) (w .1 .given .0 .1 .1 .0)) _ (w .1 .given .1)
+    (λ w. settled at (Server (w .1 .given .0 .0) (w .1 .given .0 .1 .0) (w .1 .given .0 .1 .1 .0)) _ (w .1 .given .1)
     (λ i. record {
-      cluster = (w .7 ∙ ap (λ (r : Stepped). withServer (c .before .before .before .before .before .before .before .before .before .before .loop .c) (w .1 .given .0 .0) (r .server)) (w .5 .ensures)) i;
+      cluster = (w .7 ∙ ap (λ (r : Stepped). withServer (before at .cluster) (w .1 .given .0 .0) (r .server)) (w .5 .ensures)) i;
       answer = (w .8 ∙ ap (λ (r : Stepped). r .answer) (w .5 .ensures)) i;
     }))
-    (λ w. settled (c .before) (Record (w .1 .given .0 .0)) _ (w .1 .given .1)
+    (λ w. settled at (Record (w .1 .given .0 .0)) _ (w .1 .given .1)
     (λ i. record { cluster = (w .5 ∙ ap (λ (r : Outcome). r .cluster) (w .3 .ensures)) i; answer = (w .6 ∙ ap (λ (r : Outcome). r .answer) (w .3 .ensures)) i })) v)
     (c .match .came)
 
@@ -65,12 +83,6 @@ loop-holds c = start _ _ _
 
 sub-if1 : tie.Need-sub-if1 Inv-loop μ-loop
 sub-if1 c = search needs
-
-same-length : tie.Need-same-length Inv-loop μ-loop
-same-length c = search needs
-
-returns : tie.Need-returns Inv-loop μ-loop
-returns c = stopped (c .before .before .loop .inv) (omega arith)
 
 shared-slice-read-b : tie.Need-shared-slice-read-b Inv-loop μ-loop
 shared-slice-read-b c = search needs
@@ -85,13 +97,7 @@ loop-less : tie.Need-loop-less Inv-loop μ-loop
 loop-less c = search needs
 
 loop-again : tie.Need-loop-again Inv-loop μ-loop
-loop-again c = by-byte _ (c .before .before .before .before .before .loop .inv) (omega arith) (omega arith) (c .before .if2 .taken) (c .pushed .ensures)
-
-step-held-requires : tie.Need-step-held-requires Inv-loop μ-loop
-step-held-requires c κs = search needs
-
-fresh-reader-requires : tie.Need-fresh-reader-requires Inv-loop μ-loop
-fresh-reader-requires c κs = search needs
+loop-again c = by-byte _ (c .before .before .before .before .before .loop .inv) (omega arith) (room (c .before .before .before)) (c .before .if2 .taken) (c .pushed .ensures)
 
 server-count-requires : tie.Need-server-count-requires Inv-loop μ-loop
 server-count-requires c κs = search needs
@@ -99,8 +105,14 @@ server-count-requires c κs = search needs
 well-formed-requires : tie.Need-well-formed-requires Inv-loop μ-loop
 well-formed-requires c κs = search needs
 
+step-held-requires : tie.Need-step-held-requires Inv-loop μ-loop
+step-held-requires c κs = search needs
+
 plan-for-requires : tie.Need-plan-for-requires Inv-loop μ-loop
 plan-for-requires c κs = search needs
+
+fresh-reader-requires : tie.Need-fresh-reader-requires Inv-loop μ-loop
+fresh-reader-requires c κs = search needs
 
 enum-known-p : tie.Need-enum-known-p Inv-loop μ-loop
 enum-known-p c = search needs
@@ -108,17 +120,17 @@ enum-known-p c = search needs
 enum-known-p-2 : tie.Need-enum-known-p-2 Inv-loop μ-loop
 enum-known-p-2 c = search needs
 
-mul-x : tie.Need-mul-x Inv-loop μ-loop
-mul-x c = let h = inside c .first in search needs
+mul-one : tie.Need-mul-one Inv-loop μ-loop
+mul-one c = let h = inside c .first in search needs
 
-element-copy-out-x : tie.Need-element-copy-out-x Inv-loop μ-loop
-element-copy-out-x c = inside c .first
+element-copy-out-one : tie.Need-element-copy-out-one Inv-loop μ-loop
+element-copy-out-one c = inside c .first
 
-mul-y : tie.Need-mul-y Inv-loop μ-loop
-mul-y c = let h = inside (c .before) .second in search needs
+mul-one-2 : tie.Need-mul-one-2 Inv-loop μ-loop
+mul-one-2 c = let h = inside (c .before) .second in search needs
 
-element-copy-out-y : tie.Need-element-copy-out-y Inv-loop μ-loop
-element-copy-out-y c = inside (c .before) .second
+element-copy-out-one-2 : tie.Need-element-copy-out-one-2 Inv-loop μ-loop
+element-copy-out-one-2 c = inside (c .before) .second
 
 one-requires : tie.Need-one-requires Inv-loop μ-loop
 one-requires c κs = search needs
@@ -136,7 +148,7 @@ core-requires : tie.Need-core-requires Inv-loop μ-loop
 core-requires c κs = search needs
 
 put-requires : tie.Need-put-requires Inv-loop μ-loop
-put-requires c κs = search needs
+put-requires c κs = let h = room (c .before .before .before .before .before .before .before .before .before) in search needs
 
 add-w : tie.Need-add-w Inv-loop μ-loop
 add-w c = search needs
@@ -147,14 +159,21 @@ loop-less-2 c = search needs
 loop-again-2 : tie.Need-loop-again-2 Inv-loop μ-loop
 loop-again-2 c =
     let m = c .before .before .before .before in
-    by-line _ (record { cluster = m .match .c; answer = m .match .answer }) _ (c .before .before .before .before .before .before .before .before .before .before .before .before .before .before .loop .inv) (omega arith) (omega arith) (c .before .before .before .before .before .before .before .before .before .before .if2 .left) (outcome m)
-    (λ i. record { cluster = m .match .c; reader = c .before .before .before .before .before .before .before .before .fresh-reader .ensures i }) (c .before .before .put .ensures)
+    by-line _ (record { cluster = m .match .c; answer = m .match .answer }) _ (c .before .before .before .before .before .before .before .before .before .before .before .before .before .before .loop .inv) (omega arith) (room (c .before .before .before .before .before .before .before .before .before .before .before .before)) (c .before .before .before .before .before .before .before .before .before .before .if2 .left) (outcome m)
+    (λ i. record { cluster = m .match .c; reader = c .before .before .before .before .before .fresh-reader .ensures i }) (c .before .before .put .ensures)
 
-same-length-2 : tie.Need-same-length-2 Inv-loop μ-loop
-same-length-2 c = search needs
+so-far-requires : tie.Need-so-far-requires Inv-loop μ-loop
+so-far-requires c κs = search needs
 
-returns-2 : tie.Need-returns-2 Inv-loop μ-loop
-returns-2 c = ended (c .before .loop .inv) (omega arith)
+same-length : tie.Need-same-length Inv-loop μ-loop
+same-length c = search needs
+
+returns : tie.Need-returns Inv-loop μ-loop
+returns c =
+    let a = c .before .before .loop .inv in
+    let h = ⊎-elim (λ x. stopped a (no-room (record { before = record { before = c .before .before; loop-test = x .0 }; if1 = x .1 }))) (λ x. ended a (let h = x .left in omega arith))
+    (c .before .loop-test .came) in
+    (c .so-far .ensures ∙ h .0, h .1)
 
 pub feed-spec : {M : Type 1} → statement M
 feed-spec =
@@ -164,24 +183,22 @@ feed-spec =
     μ-loop
     loop-holds
     sub-if1
-    same-length
-    returns
     shared-slice-read-b
     add-i
     pushed-requires
     loop-less
     loop-again
-    step-held-requires
-    fresh-reader-requires
     server-count-requires
     well-formed-requires
+    step-held-requires
     plan-for-requires
+    fresh-reader-requires
     enum-known-p
     enum-known-p-2
-    mul-x
-    element-copy-out-x
-    mul-y
-    element-copy-out-y
+    mul-one
+    element-copy-out-one
+    mul-one-2
+    element-copy-out-one-2
     one-requires
     mul-d
     element-set-from-d
@@ -191,5 +208,6 @@ feed-spec =
     add-w
     loop-less-2
     loop-again-2
-    same-length-2
-    returns-2)
+    so-far-requires
+    same-length
+    returns)
