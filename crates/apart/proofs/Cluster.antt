@@ -76,9 +76,9 @@ pub counted-without-the-time : countedOk (holder 1 (x ∷ [])) ≡ false
 unfolding every isBefore sameTime sameEntry entryAt entryOk follows placeOk inOrder restZero logOk countedOk
 counted-without-the-time = refl
 
-pub counted-wants-the-last-time : countedOk (timed (at 5 3)) ≡ true
+pub counted-wants-at-most-the-last-time : countedOk (timed (at 5 3)) ≡ true
 unfolding every isBefore sameTime sameEntry entryAt inOrder restZero logOk numbersOk countedOk
-counted-wants-the-last-time = refl
+counted-wants-at-most-the-last-time = refl
 
 pub zero-without-the-time : zeroOk (server 0 false 0 0 (at 0 1) []) ≡ false
 unfolding every sameTime sameEntry restZero zeroOk

@@ -17,9 +17,9 @@ pub char-in-upper-case : charOf 10 ≡ 97
 unfolding charOf
 char-in-upper-case = refl
 
-pub char-is-0-from-16 : charOf 26 ≡ 97
+pub char-of-the-high-digit : charOf 26 ≡ 97
 unfolding charOf
-char-is-0-from-16 = refl
+char-of-the-high-digit = refl
 
 pub byte-drops-the-high-digit : byteOf 49 48 ≡ 16
 unfolding digitOf byteOf
