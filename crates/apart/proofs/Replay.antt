@@ -31,9 +31,9 @@ begins-with-the-zero-record = refl
 pub begins-within-a-line : begun F2 .reader .fill ≡ 0
 begins-within-a-line = refl
 
-pub pushed-keeps-the-last-26 : pushOf (reader (replicate 26 48) 26 false) 49 .held ≡ replicate 26 48
+pub pushed-writes-over-the-last : pushOf (reader (replicate 26 48) 26 false) 49 .held ≡ replicate 26 48
 unfolding pushOf
-pushed-keeps-the-last-26 = refl
+pushed-writes-over-the-last = refl
 
 pub held-reads-a-long-line : readStep (lineHeld (reader (writeStep ClocksAgree) 26 true)) ≡ R.NoFrame
 unfolding framed lineHeld
