@@ -71,21 +71,20 @@ fn good() -> Server {
     holding(first(), second())
 }
 
+// A record of n servers that starts with a good one.
+fn counted(name: &[u8], n: usize) {
+    tried(
+        name,
+        cluster::with_server(cluster::fresh_cluster(n), 0, good()),
+    );
+}
+
 fn counts() {
     tried(b"well formed:", with(good()));
     tried(b"all zero:", cluster::ZERO_CLUSTER);
-    tried(
-        b"count 1:",
-        cluster::with_server(cluster::fresh_cluster(1), 0, good()),
-    );
-    tried(
-        b"count 8:",
-        cluster::with_server(cluster::fresh_cluster(8), 0, good()),
-    );
-    tried(
-        b"count 18446744073709551615:",
-        cluster::with_server(cluster::fresh_cluster(18446744073709551615), 0, good()),
-    );
+    counted(b"count 1:", 1);
+    counted(b"count 8:", 8);
+    counted(b"count 18446744073709551615:", 18446744073709551615);
 }
 
 // One write more.
@@ -129,39 +128,45 @@ fn lengths() {
     );
 }
 
+// A server that holds d and e.
+fn held(name: &[u8], d: Entry, e: Entry) {
+    tried(name, with(holding(d, e)));
+}
+
 fn entries() {
-    tried(
-        b"an entry of term 0:",
-        with(holding(entry(0, 0, 1, 1, 1), second())),
-    );
-    tried(
-        b"terms fall:",
-        with(holding(entry(2, 0, 1, 1, 1), entry(1, 0, 1, 2, 0))),
-    );
-    tried(
+    held(b"an entry of term 0:", entry(0, 0, 1, 1, 1), second());
+    held(b"terms fall:", entry(2, 0, 1, 1, 1), entry(1, 0, 1, 2, 0));
+    let d = first();
+    held(
         b"an entry above the server's term:",
-        with(holding(first(), entry(3, 0, 1, 2, 0))),
+        d,
+        entry(3, 0, 1, 2, 0),
     );
-    tried(b"key 16:", with(holding(first(), entry(2, 16, 1, 2, 0))));
-    tried(b"value 0:", with(holding(first(), entry(2, 0, 0, 2, 0))));
+    held(b"key 16:", d, entry(2, 16, 1, 2, 0));
+    held(b"value 0:", d, entry(2, 0, 0, 2, 0));
+}
+
+fn orders() {
+    let d = first();
+    held(b"a time twice:", d, entry(2, 0, 1, 1, 1));
+    held(b"l falls:", d, entry(2, 0, 1, 1, 0));
+    held(b"p falls:", d, entry(2, 0, 1, 0, 2));
+}
+
+fn last_times() {
     tried(
-        b"a time twice:",
-        with(holding(first(), entry(2, 0, 1, 1, 1))),
+        b"last time above the cluster time, by p:",
+        with(at_time(good(), 1, 65535)),
     );
-    tried(b"l falls:", with(holding(first(), entry(2, 0, 1, 1, 0))));
-    tried(b"p falls:", with(holding(first(), entry(2, 0, 1, 0, 2))));
+    let s = holding(first(), entry(2, 0, 1, 2, 1));
+    tried(
+        b"last time above the cluster time, by l:",
+        with(at_time(s, 2, 0)),
+    );
 }
 
 fn numbers() {
     let s = good();
-    tried(
-        b"last time above the cluster time, by p:",
-        with(at_time(s, 1, 65535)),
-    );
-    tried(
-        b"last time above the cluster time, by l:",
-        with(at_time(holding(first(), entry(2, 0, 1, 2, 1)), 2, 0)),
-    );
     tried(b"commit point 3 of 2:", with(Server { commit: 3, ..s }));
     tried(
         b"wall clock 0:",
@@ -181,56 +186,43 @@ fn with_slot(s: Server, i: usize, e: Entry) -> Server {
     Server { log: g, ..s }
 }
 
+// A good server with e in slot i.
+fn slot(name: &[u8], i: usize, e: Entry) {
+    tried(name, with(with_slot(good(), i, e)));
+}
+
 fn slots() {
-    let s = good();
-    tried(
-        b"slot 3 with a term:",
-        with(with_slot(s, 2, entry(1, 0, 0, 0, 0))),
-    );
-    tried(
-        b"slot 4 with a key:",
-        with(with_slot(s, 3, entry(0, 1, 0, 0, 0))),
-    );
-    tried(
-        b"slot 5 with a value:",
-        with(with_slot(s, 4, entry(0, 0, 1, 0, 0))),
-    );
-    tried(
-        b"slot 31 with a p:",
-        with(with_slot(s, 30, entry(0, 0, 0, 1, 0))),
-    );
-    tried(
-        b"slot 32 with an l:",
-        with(with_slot(s, 31, entry(0, 0, 0, 0, 1))),
-    );
-    tried(
-        b"slot 32 with a good entry:",
-        with(with_slot(s, 31, entry(2, 0, 1, 2, 1))),
-    );
+    slot(b"slot 3 with a term:", 2, entry(1, 0, 0, 0, 0));
+    slot(b"slot 4 with a key:", 3, entry(0, 1, 0, 0, 0));
+    slot(b"slot 5 with a value:", 4, entry(0, 0, 1, 0, 0));
+    slot(b"slot 31 with a p:", 30, entry(0, 0, 0, 1, 0));
+    slot(b"slot 32 with an l:", 31, entry(0, 0, 0, 0, 1));
+    slot(b"slot 32 with a good entry:", 31, entry(2, 0, 1, 2, 1));
+}
+
+// Server s past the count.
+fn beyond(name: &[u8], s: Server) {
+    tried(name, past(s));
 }
 
 fn past_the_count() {
     let z = cluster::ZERO_SERVER;
-    tried(b"past the count, a length:", past(of_length(z, 1)));
-    tried(
-        b"past the count, a slot:",
-        past(with_slot(z, 0, entry(0, 0, 0, 0, 1))),
-    );
-    tried(b"past the count, a term:", past(Server { term: 1, ..z }));
-    tried(
-        b"past the count, a primary:",
-        past(Server { primary: true, ..z }),
-    );
-    tried(
+    beyond(b"past the count, a length:", of_length(z, 1));
+    let e = entry(0, 0, 0, 0, 1);
+    beyond(b"past the count, a slot:", with_slot(z, 0, e));
+    beyond(b"past the count, a term:", Server { term: 1, ..z });
+    beyond(b"past the count, a primary:", Server { primary: true, ..z });
+    beyond(
         b"past the count, a commit point:",
-        past(Server { commit: 1, ..z }),
+        Server { commit: 1, ..z },
     );
-    tried(
-        b"past the count, a wall clock:",
-        past(Server { wall: 1, ..z }),
-    );
-    tried(b"past the count, a p:", past(at_time(z, 1, 0)));
-    tried(b"past the count, an l:", past(at_time(z, 0, 1)));
+}
+
+fn past_in_time() {
+    let z = cluster::ZERO_SERVER;
+    beyond(b"past the count, a wall clock:", Server { wall: 1, ..z });
+    beyond(b"past the count, a p:", at_time(z, 1, 0));
+    beyond(b"past the count, an l:", at_time(z, 0, 1));
     tried(
         b"past the count, a good server in the last place:",
         cluster::with_server(with(good()), 6, secondary(log::EMPTY_LOG, 0, 0)),
@@ -241,7 +233,10 @@ pub(crate) fn run() {
     counts();
     lengths();
     entries();
+    orders();
+    last_times();
     numbers();
     slots();
     past_the_count();
+    past_in_time();
 }

@@ -78,31 +78,37 @@ fn equal_above() {
     );
 }
 
-// Server 0 holds d at position 1, where server 1 holds e.
-fn differing(d: Entry, e: Entry) {
+// Server 0 is behind server 1 and holds d at position 1, where server 1 holds e.
+fn behind(d: Entry, e: Entry) {
     let f = entry(2, 0, 4, 5, 0);
-    let behind = of(secondary(one(d), 1, 0), secondary(two(e, f), 2, 1));
-    case(b"  kind 3:", behind, Step::Hears(0, 1), 1);
-    case(b"  kind 4:", behind, Step::Pulls(0, 1), 1);
-    case(b"  kind 5:", behind, Step::RollsBack(0, 1), 1);
-    let beside = of(primary(one(d), 1, 0), secondary(one(e), 1, 0));
-    case(b"  kind 7:", beside, Step::Advances(0), 1);
-    case(b"  kind 12:", beside, Step::Acknowledged(0, 2, 1, 1), 1);
+    let c = of(secondary(one(d), 1, 0), secondary(two(e, f), 2, 1));
+    case(b"  kind 3:", c, Step::Hears(0, 1), 1);
+    case(b"  kind 4:", c, Step::Pulls(0, 1), 1);
+    case(b"  kind 5:", c, Step::RollsBack(0, 1), 1);
+}
+
+// Server 0 is primary and holds d, where server 1 holds e.
+fn beside(d: Entry, e: Entry) {
+    let c = of(primary(one(d), 1, 0), secondary(one(e), 1, 0));
+    case(b"  kind 7:", c, Step::Advances(0), 1);
+    case(b"  kind 12:", c, Step::Acknowledged(0, 2, 1, 1), 1);
+}
+
+// Server 0 holds d, and server 1 an entry of the same term at the same position.
+fn differing(name: &[u8], d: Entry) {
+    text(name);
+    let e = entry(1, 3, 9, 2, 1);
+    behind(d, e);
+    beside(d, e);
 }
 
 // One term and one position, and what else differs.
 fn differences() {
-    let e = entry(1, 3, 9, 2, 1);
-    text(b"equal entries\n");
-    differing(e, e);
-    text(b"another key\n");
-    differing(entry(1, 4, 9, 2, 1), e);
-    text(b"another value\n");
-    differing(entry(1, 3, 8, 2, 1), e);
-    text(b"another p\n");
-    differing(entry(1, 3, 9, 3, 1), e);
-    text(b"another l\n");
-    differing(entry(1, 3, 9, 2, 0), e);
+    differing(b"equal entries\n", entry(1, 3, 9, 2, 1));
+    differing(b"another key\n", entry(1, 4, 9, 2, 1));
+    differing(b"another value\n", entry(1, 3, 8, 2, 1));
+    differing(b"another p\n", entry(1, 3, 9, 3, 1));
+    differing(b"another l\n", entry(1, 3, 9, 2, 0));
 }
 
 // Two primaries of one term with different entries: they don't put each other down.

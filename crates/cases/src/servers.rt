@@ -137,7 +137,7 @@ fn timed() {
     );
 }
 
-// Terms at their limit.
+// Terms at their limit: no election goes past it.
 fn last_terms() {
     let s = secondary(log::EMPTY_LOG, 65535, 0);
     let c = of(s, s);
@@ -150,7 +150,12 @@ fn last_terms() {
     );
     let r = secondary(log::EMPTY_LOG, 65534, 0);
     case(b"kind 1, all terms 65534:", of(r, r), Step::Elect(0, 3), 1);
-    let below = of(r, s);
+}
+
+// A server at the limit beside one that isn't, and a primary there.
+fn above_a_voter() {
+    let s = secondary(log::EMPTY_LOG, 65535, 0);
+    let below = of(secondary(log::EMPTY_LOG, 65534, 0), s);
     case(b"kind 1, a voter at 65535:", below, Step::Elect(0, 3), 1);
     case(b"kind 3, hears 65535:", below, Step::Hears(0, 1), 1);
     let p = primary(log::EMPTY_LOG, 65535, 0);
@@ -168,4 +173,5 @@ pub(crate) fn run() {
     empty_primary();
     timed();
     last_terms();
+    above_a_voter();
 }
