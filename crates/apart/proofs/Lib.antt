@@ -7,6 +7,7 @@ pub mod Steps
 pub mod Pairs
 pub mod Singles
 pub mod Wholes
+pub mod Counts
 pub mod Rules
 pub mod Hex
 pub mod Frames

@@ -27,7 +27,7 @@ use Rattle.steps.specs.declared.Step.the-variants.{Start, Elect, StepDown, Hear
 use Rattle.steps.specs.Ranges.{byte, FitsStep}
 use Rattle.steps.proofs.Decided.{Clear}
 use Rattle.wholes.specs.Elects.{mayVote, allMayVote, electRules, newTerm}
-use Rattle.wholes.specs.Advances.{passes, highestPassing, advanceDone}
+use Rattle.counts.specs.Advances.{passes, highestPassing, advanceDone}
 use Rattle.wholes.specs.Starts.{startRules}
 use Rattle.wholes.specs.ClocksAgree.{greatestClock}
 use Rattle.rules.specs.Rules.{rowOf, rulesOf, doneOf, isStart, stepOf}

@@ -37,7 +37,7 @@ use Rattle.pairs.specs.RollsBack.{common, rollRules, rolledOf}
 use Rattle.singles.specs.StepsDown.{downOf}
 use Rattle.singles.specs.Restarts.{restartedOf}
 use Rattle.singles.specs.Writes.{ticks, tickTime, writeRules, entryOf, wroteOf}
-use Rattle.wholes.specs.Advances.{committedOf}
+use Rattle.counts.specs.Advances.{committedOf}
 use Rattle.rules.proofs.Others.{officeOf, wallOf}
 use Rattle.rules.proofs.Logs.{log-raised, appended-good, joined-good}
 use Rattle.rules.proofs.Ranges.{fits-later, fits-tick, fits-entry, fits-appended, fits-joined}

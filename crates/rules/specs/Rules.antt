@@ -26,8 +26,8 @@ use Rattle.singles.specs.MajorityRead.{majorityRules, majorityDone}
 use Rattle.wholes.specs.Starts.{startRules, startDone}
 use Rattle.wholes.specs.ClocksAgree.{agreesOf}
 use Rattle.wholes.specs.Elects.{electRules, electDone}
-use Rattle.wholes.specs.Advances.{advanceRules, advanceDone}
-use Rattle.wholes.specs.Acknowledged.{acknowledgeRules, acknowledgeDone}
+use Rattle.counts.specs.Advances.{advanceRules, advanceDone}
+use Rattle.counts.specs.Acknowledged.{acknowledgeRules, acknowledgeDone}
 
 -- a server's number is below the server count
 abbrev pub inRange : Cluster → ℕ → Bool × Refusal

@@ -25,7 +25,7 @@ use Rattle.steps.specs.declared.Refusal.{Refusal}
 use Rattle.pairs.specs.Pulls.{tookOf}
 use Rattle.singles.specs.Writes.{wroteOf}
 use Rattle.wholes.specs.Elects.{notBehind, mayVote, allMayVote}
-use Rattle.wholes.specs.Advances.{backs, passes, highestPassing}
+use Rattle.counts.specs.Advances.{backs, passes, highestPassing}
 use Rattle.rules.specs.Rules.{rowOf, coreOf, stepOf}
 use Rattle.safety.specs.Promise.{runOf, StepsFrom, firstOf, holds, Kept}
 use Rattle.safety.proofs.Promise.{demand-3}

@@ -22,7 +22,7 @@ use Rattle.cluster.proofs.Changed.{changed-at}
 use Rattle.cluster.proofs.Masks.{within-member, within-count}
 use Rattle.steps.specs.declared.Step.the-variants.{Elect, Advances}
 use Rattle.wholes.specs.Elects.{notBehind, mayVote, allMayVote, newTerm}
-use Rattle.wholes.specs.Advances.{backs, backers, passes, highestPassing, committedOf}
+use Rattle.counts.specs.Advances.{backs, backers, passes, highestPassing, committedOf}
 use Rattle.rules.specs.Rules.{rowOf}
 use Rattle.safety.proofs.Theory.Quorum.{Quorums, Majority}
 use Rattle.safety.proofs.Theory.Cluster.{Server, NotBehind}

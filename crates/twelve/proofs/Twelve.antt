@@ -5,7 +5,7 @@ use Rattle.base.specs.Numbers.{count, highest}
 use Rattle.clock.specs.Times.{isBefore, sameTime, tickOf}
 use Rattle.log.specs.Entries.{sameEntry, entryAt, equalAt, commonBeginning}
 use Rattle.cluster.specs.Sets.{member}
-use Rattle.wholes.specs.Advances.{backs, passes, highestPassing}
+use Rattle.counts.specs.Advances.{backs, passes, highestPassing}
 use Rattle.twelve.specs.Table.{all, holds, table}
 
 pub all-hold : all holds table ≡ true

@@ -21,7 +21,7 @@ use Rattle.steps.specs.Refusals.{Rules, decided, refusalNumber}
 use Rattle.pairs.specs.Pulls.{pullRules}
 use Rattle.pairs.specs.RollsBack.{rollRules}
 use Rattle.singles.specs.Writes.{writeRules}
-use Rattle.wholes.specs.Advances.{highestPassing}
+use Rattle.counts.specs.Advances.{highestPassing}
 
 -- a time as 01 prints it, (p, l); a log as the list of its entries' terms; a server as its term and its log
 abbrev pub Pair : Type 0

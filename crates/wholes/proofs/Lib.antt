@@ -1,3 +1,2 @@
--- Laws of the kinds that need the whole cluster. Assumes nothing.
-pub mod Passing
+-- Laws of the kinds that change the whole cluster. Assumes nothing.
 pub mod Results

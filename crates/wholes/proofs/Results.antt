@@ -3,8 +3,6 @@ use Prim.Native.Nat.{ℕ}
 use Rattle.base.proofs.Results.{OneResult, one-result}
 use Rattle.cluster.specs.declared.Cluster.{Cluster}
 use Rattle.cluster.specs.declared.Server.{Server}
-use Rattle.wholes.specs.Acknowledged.{acknowledgedOf, hasEntry, holders, isAcknowledged}
-use Rattle.wholes.specs.Advances.{advancesOf, backs, highestPassing}
 use Rattle.wholes.specs.Elects.{allMayVote, electsOf, mayVote, notBehind, voteOk}
 use Rattle.wholes.specs.ClocksAgree.{agreesOf, greatestClock}
 use Rattle.wholes.specs.Starts.{startsOf}
@@ -26,27 +24,6 @@ all-may-vote c s set = one-result (allMayVote c s set)
 
 pub elects : (c : Cluster) (a set : ℕ) → OneResult (electsOf c a set)
 elects c a set = one-result (electsOf c a set)
-
-pub does-back : (s : Server) (n : ℕ) (t : Server) → OneResult (backs s n t)
-does-back s n t = one-result (backs s n t)
-
-pub highest-passing : (c : Cluster) (s : Server) → OneResult (highestPassing c s)
-highest-passing c s = one-result (highestPassing c s)
-
-pub advances : (c : Cluster) (a : ℕ) → OneResult (advancesOf c a)
-advances c a = one-result (advancesOf c a)
-
-pub holders-of : (c : Cluster) (s : Server) (n : ℕ) → OneResult (holders c s n)
-holders-of c s n = one-result (holders c s n)
-
-pub is-acknowledged : (c : Cluster) (s : Server) (k n : ℕ) → OneResult (isAcknowledged c s k n)
-is-acknowledged c s k n = one-result (isAcknowledged c s k n)
-
-pub has-entry : (s : Server) (n term : ℕ) → OneResult (hasEntry s n term)
-has-entry s n term = one-result (hasEntry s n term)
-
-pub acknowledged : (c : Cluster) (a k n term : ℕ) → OneResult (acknowledgedOf c a k n term)
-acknowledged c a k n term = one-result (acknowledgedOf c a k n term)
 
 pub greatest-clock : (c : Cluster) → OneResult (greatestClock c)
 greatest-clock c = one-result (greatestClock c)

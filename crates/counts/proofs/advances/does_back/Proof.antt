@@ -1,9 +1,9 @@
--- `wholes::advances::does_back` meets its contract. Assumes nothing.
-use Rattle.wholes.specs.Advances.{backs}
+-- `counts::advances::does_back` meets its contract. Assumes nothing.
+use Rattle.counts.specs.Advances.{backs}
 use Rattle.base.proofs.Facts.{tests}
 use borrow.Author.Needs.{needs}
-use Rattle.wholes.proofs.advances.does_back.Statement.{statement}
-use Rattle.wholes.proofs.advances.does_back.Tie as tie
+use Rattle.counts.proofs.advances.does_back.Statement.{statement}
+use Rattle.counts.proofs.advances.does_back.Tie as tie
 
 returns : tie.Need-returns
 unfolding backs

@@ -1,5 +1,5 @@
--- `wholes::acknowledged::acknowledged` meets its contract. Assumes nothing.
-use Rattle.wholes.specs.Acknowledged.{hasEntry, acknowledgeRules, acknowledgeDone}
+-- `counts::acknowledged::acknowledged` meets its contract. Assumes nothing.
+use Rattle.counts.specs.Acknowledged.{hasEntry, acknowledgeRules, acknowledgeDone}
 use Rattle.steps.proofs.Decided.{here, later, decided-clear, decided-broken}
 use Rattle.steps.specs.Answers.{refusingAll}
 use Rattle.steps.specs.declared.Answer.the-variants.{Entry as Told}
@@ -13,8 +13,8 @@ use lib.Dec.{ltb, leb}
 use mathlib.Core.Bool.{true}
 use mathlib.Core.Path.{_≡_, sym, _∙_}
 use borrow.Author.Needs.{needs}
-use Rattle.wholes.proofs.acknowledged.acknowledged.Statement.{statement}
-use Rattle.wholes.proofs.acknowledged.acknowledged.Tie as tie
+use Rattle.counts.proofs.acknowledged.acknowledged.Statement.{statement}
+use Rattle.counts.proofs.acknowledged.acknowledged.Tie as tie
 
 -- what has passed at each place
 in-range : (c : tie.Else1) → ltb (c .before .before .args .a) (serverCount (c .before .before .args .t1)) ≡ true

@@ -1,6 +1,6 @@
--- `wholes::advances::highest_passing` meets its contract. Assumes nothing.
-use Rattle.wholes.proofs.Passing.{passes-low, passes-yes, passes-old, passes-few}
-use Rattle.wholes.specs.Advances.{backs, backers, passes, highestPassing}
+-- `counts::advances::highest_passing` meets its contract. Assumes nothing.
+use Rattle.counts.proofs.Passing.{passes-low, passes-yes, passes-old, passes-few}
+use Rattle.counts.specs.Advances.{backs, backers, passes, highestPassing}
 use Rattle.cluster.specs.Servers.{serverAt, serverCount}
 use Rattle.log.specs.Logs.{lengthOf}
 use Rattle.base.proofs.Highest.{highest-here, highest-down, highest-none}
@@ -11,8 +11,8 @@ use mathlib.Core.Logic.{⊎-elim}
 use mathlib.Core.Path.{_≡_, ap, sym, _∙_}
 use Prim.Native.Nat.{ℕ, _≤_, _-_}
 use borrow.Author.Needs.{needs}
-use Rattle.wholes.proofs.advances.highest_passing.Statement.{statement}
-use Rattle.wholes.proofs.advances.highest_passing.Tie as tie
+use Rattle.counts.proofs.advances.highest_passing.Statement.{statement}
+use Rattle.counts.proofs.advances.highest_passing.Tie as tie
 
 abbrev Inv-loop2 : tie.InvT-loop2
 Inv-loop2 s c size g n k₀ i₀ k i = (i ≤ size) × (k ≤ i) × (k ≡ count i (λ j. backs s n (serverAt c j)))

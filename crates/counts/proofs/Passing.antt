@@ -12,7 +12,7 @@ use Rattle.log.specs.Logs.{live, lengthOf}
 use Rattle.cluster.specs.declared.Server.{Server}
 use Rattle.cluster.specs.declared.Cluster.{Cluster}
 use Rattle.cluster.specs.Servers.{serverCount}
-use Rattle.wholes.specs.Advances.{backers, passes, highestPassing}
+use Rattle.counts.specs.Advances.{backers, passes, highestPassing}
 
 -- ---- 01's sentence
 

@@ -1,6 +1,6 @@
 // Kind 7: a advances its commit point.
 ghost use mathlib.Core.Path.{_≡_};
-ghost use Rattle.wholes.specs.Advances.{backs, highestPassing, advancesOf};
+ghost use Rattle.counts.specs.Advances.{backs, highestPassing, advancesOf};
 use cluster::Cluster;
 use cluster::Server;
 use steps::Answer;

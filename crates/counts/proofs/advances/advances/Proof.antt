@@ -1,5 +1,5 @@
--- `wholes::advances::advances` meets its contract. Assumes nothing.
-use Rattle.wholes.specs.Advances.{highestPassing, committedOf, advanceRules, advanceDone}
+-- `counts::advances::advances` meets its contract. Assumes nothing.
+use Rattle.counts.specs.Advances.{highestPassing, committedOf, advanceRules, advanceDone}
 use Rattle.steps.proofs.Decided.{here, later, decided-clear, decided-broken}
 use Rattle.steps.specs.Answers.{refusingAll}
 use Rattle.steps.specs.declared.Answer.the-variants.{Reached}
@@ -12,8 +12,8 @@ use lib.Dec.{ltb, leb}
 use mathlib.Core.Bool.{true, false}
 use mathlib.Core.Path.{_≡_, ap, sym, _∙_}
 use borrow.Author.Needs.{needs}
-use Rattle.wholes.proofs.advances.advances.Statement.{statement}
-use Rattle.wholes.proofs.advances.advances.Tie as tie
+use Rattle.counts.proofs.advances.advances.Statement.{statement}
+use Rattle.counts.proofs.advances.advances.Tie as tie
 
 -- what has passed at each place
 in-range : (c : tie.Else1) → ltb (c .before .before .args .a) (serverCount (c .before .before .args .t1)) ≡ true

@@ -1,9 +1,9 @@
--- `wholes::acknowledged::has_entry` meets its contract. Assumes nothing.
-use Rattle.wholes.specs.Acknowledged.{hasEntry}
+-- `counts::acknowledged::has_entry` meets its contract. Assumes nothing.
+use Rattle.counts.specs.Acknowledged.{hasEntry}
 use Rattle.base.proofs.Facts.{tests}
 use borrow.Author.Needs.{needs}
-use Rattle.wholes.proofs.acknowledged.has_entry.Statement.{statement}
-use Rattle.wholes.proofs.acknowledged.has_entry.Tie as tie
+use Rattle.counts.proofs.acknowledged.has_entry.Statement.{statement}
+use Rattle.counts.proofs.acknowledged.has_entry.Tie as tie
 
 length-of-requires : tie.Need-length-of-requires
 length-of-requires c κs = search needs

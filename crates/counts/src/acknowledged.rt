@@ -1,6 +1,6 @@
 // Kind 12: server a is asked about a position and a term, under a count.
 ghost use mathlib.Core.Path.{_≡_};
-ghost use Rattle.wholes.specs.Acknowledged.{holders, isAcknowledged, hasEntry, acknowledgedOf};
+ghost use Rattle.counts.specs.Acknowledged.{holders, isAcknowledged, hasEntry, acknowledgedOf};
 use cluster::Cluster;
 use cluster::Server;
 use steps::Answer;

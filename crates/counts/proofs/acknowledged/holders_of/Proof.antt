@@ -1,4 +1,4 @@
--- `wholes::acknowledged::holders_of` meets its contract. Assumes nothing.
+-- `counts::acknowledged::holders_of` meets its contract. Assumes nothing.
 use Rattle.cluster.specs.Servers.{serverAt, serverCount}
 use Rattle.log.specs.Logs.{live}
 use Rattle.log.specs.Entries.{equalAt}
@@ -9,8 +9,8 @@ use mathlib.Core.Logic.{⊎-elim}
 use mathlib.Core.Path.{_≡_, ap, sym, _∙_}
 use Prim.Native.Nat.{ℕ, _≤_, _-_}
 use borrow.Author.Needs.{needs}
-use Rattle.wholes.proofs.acknowledged.holders_of.Statement.{statement}
-use Rattle.wholes.proofs.acknowledged.holders_of.Tie as tie
+use Rattle.counts.proofs.acknowledged.holders_of.Statement.{statement}
+use Rattle.counts.proofs.acknowledged.holders_of.Tie as tie
 
 abbrev Inv-loop : tie.InvT-loop
 Inv-loop n c size h k₀ i₀ k i = (i ≤ size) × (k ≤ i) × (k ≡ count i (λ j. equalAt (live (serverAt c j .log)) (live h) n))

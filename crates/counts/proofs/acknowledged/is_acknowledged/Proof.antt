@@ -1,9 +1,9 @@
--- `wholes::acknowledged::is_acknowledged` meets its contract. Assumes nothing.
-use Rattle.wholes.specs.Acknowledged.{isAcknowledged}
+-- `counts::acknowledged::is_acknowledged` meets its contract. Assumes nothing.
+use Rattle.counts.specs.Acknowledged.{isAcknowledged}
 use borrow.Author.Tests.{eq-eqb, ne-eqb}
 use borrow.Author.Needs.{needs}
-use Rattle.wholes.proofs.acknowledged.is_acknowledged.Statement.{statement}
-use Rattle.wholes.proofs.acknowledged.is_acknowledged.Tie as tie
+use Rattle.counts.proofs.acknowledged.is_acknowledged.Statement.{statement}
+use Rattle.counts.proofs.acknowledged.is_acknowledged.Tie as tie
 
 returns : tie.Need-returns
 unfolding isAcknowledged

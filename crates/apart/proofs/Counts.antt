@@ -1,0 +1,53 @@
+-- What the definitions of kinds 7 and 12 give where a wrong program differs. Assumes nothing.
+use mathlib.Core.Path.{_≡_, refl}
+use mathlib.Core.Bool.{true, false}
+use mathlib.Core.List.{[], _∷_}
+use Rattle.base.specs.Numbers.{count, highest}
+use Rattle.base.specs.Lists.{eachFrom}
+use Rattle.clock.specs.Times.{sameTime}
+use Rattle.log.specs.Entries.{sameEntry, entryAt, equalAt}
+use Rattle.cluster.specs.Servers.{freshServer, startedOf}
+use Rattle.steps.specs.declared.Answer.the-variants.{Reached, Refused}
+use Rattle.steps.specs.declared.Refusal.the-variants.{OutOfRange, WrongRole}
+use Rattle.counts.specs.Advances.{backs, passes, highestPassing, advancesOf}
+use Rattle.counts.specs.Acknowledged.{holders, isAcknowledged, hasEntry, acknowledgedOf}
+use Rattle.apart.proofs.Things.{x, y, z, holder, leader, two, F2}
+
+pub backs-by-terms-alone : backs (holder 1 (x ∷ [])) 1 (holder 1 []) ≡ false
+unfolding equalAt backs
+backs-by-terms-alone = refl
+
+pub advances-one-further : advancesOf (two (leader (x ∷ z ∷ [])) (holder 1 (x ∷ z ∷ []))) 0 .answer ≡ Reached 2
+unfolding count highest sameTime sameEntry entryAt equalAt backs passes highestPassing
+advances-one-further = refl
+
+pub secondary-advances : advancesOf F2 0 .answer ≡ Refused WrongRole
+unfolding eachFrom startedOf
+secondary-advances = refl
+
+pub holders-without-s : holders (two (holder 1 (x ∷ [])) (holder 1 (x ∷ []))) (holder 1 (x ∷ [])) 1 ≡ 2
+unfolding count sameTime sameEntry entryAt equalAt
+holders-without-s = refl
+
+pub holders-by-terms : holders (two (holder 1 (x ∷ [])) (holder 1 (y ∷ []))) (holder 1 (x ∷ [])) 1 ≡ 1
+unfolding count sameTime sameEntry entryAt equalAt
+holders-by-terms = refl
+
+pub acknowledged-at-count-0 : isAcknowledged F2 freshServer 0 1 ≡ false
+unfolding isAcknowledged
+acknowledged-at-count-0 = refl
+
+pub acknowledged-by-more : isAcknowledged (two (holder 1 (x ∷ [])) (holder 1 (x ∷ []))) (holder 1 (x ∷ [])) 2 1 ≡ true
+unfolding count sameTime sameEntry entryAt equalAt isAcknowledged
+acknowledged-by-more = refl
+
+pub has-entry-of-any-term : hasEntry (holder 1 (x ∷ [])) 1 2 ≡ false
+unfolding entryAt hasEntry
+has-entry-of-any-term = refl
+
+pub has-entry-past-the-length : hasEntry freshServer 1 0 ≡ false
+unfolding hasEntry
+has-entry-past-the-length = refl
+
+pub acknowledged-10-at-33 : acknowledgedOf F2 0 0 33 1 .answer ≡ Refused OutOfRange
+acknowledged-10-at-33 = refl

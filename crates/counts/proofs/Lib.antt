@@ -1,0 +1,3 @@
+-- Laws of the kinds that count servers. Assumes nothing.
+pub mod Passing
+pub mod Results
