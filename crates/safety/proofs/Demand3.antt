@@ -6,10 +6,10 @@ use mathlib.Core.Bool.{true}
 use Prim.Native.Nat.{ℕ, zero, suc, _≤_, _<_}
 use native.Mathlib.Decide.{decLe, ℕ-discrete}
 use native.Mathlib.Omega.{arith}
-use Rattle.safety.proofs.Theory.Quorum.{Quorums}
-use Rattle.safety.proofs.Theory.Cluster.{Entry, Log, Agree, Server, Seen, commitTime, Holds}
-use Rattle.safety.proofs.Theory.Steps.{Fresh, Walk}
-use Rattle.safety.proofs.Theory.Demand3.{LastFor, Shown, Demand3}
+use Rattle.safety.specs.Quorum.{Quorums}
+use Rattle.safety.specs.Cluster.{Entry, Log, Agree, Server, Seen, commitTime, Holds}
+use Rattle.safety.specs.Steps.{Fresh, Walk}
+use Rattle.safety.specs.Demand3.{LastFor, Shown, Demand3}
 use Rattle.safety.proofs.Leads.{Rooted, rooted-pair, new-pair, terms-rise, times-rise}
 use Rattle.safety.proofs.Inv.{Chosen, Settled, Open, rooted-at, chosen-open, settled-open, kept-lead, reach, chosen-agree}
 use Rattle.safety.proofs.Reached.{Known, Later, walk-known, reached}

@@ -6,9 +6,9 @@ use mathlib.Core.Bool.{Bool, true, false}
 use Prim.Native.Nat.{ℕ, suc, _≤_, _<_}
 use native.Mathlib.Decide.{decLe}
 use native.Mathlib.Omega.{arith}
-use Rattle.safety.proofs.Theory.Quorum.{Quorums}
-use Rattle.safety.proofs.Theory.Cluster.{Server, Seen, Holds, NotBehind}
-use Rattle.safety.proofs.Theory.Steps.{SameLog, Elects}
+use Rattle.safety.specs.Quorum.{Quorums}
+use Rattle.safety.specs.Cluster.{Server, Seen, Holds, NotBehind}
+use Rattle.safety.specs.Steps.{SameLog, Elects}
 use Rattle.safety.proofs.Leads.{Leads, terms-rise, times-rise, log-begins, Grown, grown-rooted}
 use Rattle.safety.proofs.Leads.{Leading, led, led-lead, led-own, led-grown, led-tree}
 use Rattle.safety.proofs.Inv.{Acks, Open, LogOf, Has, Inv, upto-trans, acknowledged, rooted-at, still-behind, open-before, reach}

@@ -6,9 +6,9 @@ use mathlib.Core.Bool.{true}
 use Prim.Native.Nat.{ℕ, suc, _≤_, _<_}
 use native.Mathlib.Decide.{decLe, ℕ-discrete}
 use native.Mathlib.Omega.{arith}
-use Rattle.safety.proofs.Theory.Quorum.{Quorums}
-use Rattle.safety.proofs.Theory.Cluster.{Log, Agree, Server, Seen, lastTerm, Holds, Upto, NotBehind, Others}
-use Rattle.safety.proofs.Theory.Steps.{Copies, pulls, rollsBack}
+use Rattle.safety.specs.Quorum.{Quorums}
+use Rattle.safety.specs.Cluster.{Log, Agree, Server, Seen, lastTerm, Holds, Upto, NotBehind, Others}
+use Rattle.safety.specs.Steps.{Copies, pulls, rollsBack}
 use Rattle.safety.proofs.Leads.{Leads, Rooted, Pair, Tree, term-of, rooted-pair, rooted-down, terms-rise, Grown, old-pair}
 
 -- n < ack i t says that server i once had, while its term and its last term were t, a log of n entries or more

@@ -5,9 +5,9 @@ use mathlib.Core.Logic.{by-cases}
 use Prim.Native.Nat.{ℕ, _≤_, _<_}
 use native.Mathlib.Decide.{decLe}
 use native.Mathlib.Omega.{arith}
-use Rattle.safety.proofs.Theory.Quorum.{Quorums}
-use Rattle.safety.proofs.Theory.Cluster.{Log, Agree, Seen, Holds, Others}
-use Rattle.safety.proofs.Theory.Steps.{Copies, stays, Quiet, Goes, quiet, Fresh, Walk, stop, go}
+use Rattle.safety.specs.Quorum.{Quorums}
+use Rattle.safety.specs.Cluster.{Log, Agree, Seen, Holds, Others}
+use Rattle.safety.specs.Steps.{Copies, stays, Quiet, Goes, quiet, Fresh, Walk, stop, go}
 use Rattle.safety.proofs.Leads.{term-of}
 use Rattle.safety.proofs.Inv.{replaced, not-lost, matching, may-copy}
 use Rattle.safety.proofs.Moves.{rests-refl}

@@ -5,7 +5,7 @@ use mathlib.Core.Logic.{_≢_, _⊎_, ⊎-elim, ite}
 use Prim.Native.Nat.{ℕ, suc, _≤_, _<_}
 use native.Mathlib.Decide.{ℕ-discrete}
 use native.Mathlib.Omega.{arith}
-use Rattle.safety.proofs.Theory.Cluster.{Entry, root, Log, Agree, Server}
+use Rattle.safety.specs.Cluster.{Entry, root, Log, Agree, Server}
 
 -- the log of each term's primary up to its last write: the positions below the size are its own, none where the term was never won
 pub record Leads : Type 0 where

@@ -1,6 +1,5 @@
 -- The laws and proofs of the safety theory, and of the records that are joined to it: `Promise` has demand 3.
 -- Assumes nothing.
-pub mod Theory
 pub mod Quorum
 pub mod Time
 pub mod Leads

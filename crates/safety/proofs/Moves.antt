@@ -5,9 +5,9 @@ use mathlib.Core.Logic.{_⊎_, inl, inr, ⊎-elim}
 use mathlib.Core.Bool.{true}
 use Prim.Native.Nat.{ℕ, suc, _≤_, _<_}
 use native.Mathlib.Omega.{arith}
-use Rattle.safety.proofs.Theory.Quorum.{Quorums}
-use Rattle.safety.proofs.Theory.Cluster.{Server, Seen, lastTerm, Upto}
-use Rattle.safety.proofs.Theory.Steps.{SameLog, Rests}
+use Rattle.safety.specs.Quorum.{Quorums}
+use Rattle.safety.specs.Cluster.{Server, Seen, lastTerm, Upto}
+use Rattle.safety.specs.Steps.{SameLog, Rests}
 use Rattle.safety.proofs.Leads.{Leads}
 use Rattle.safety.proofs.Inv.{Acks, Settled, Open, Inv, settled-holds, still-open, still-behind}
 

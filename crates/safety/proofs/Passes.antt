@@ -4,9 +4,9 @@ use mathlib.Core.Logic.{_⊎_, inl, inr, by-cases, ite, Dec·and}
 use Prim.Native.Nat.{ℕ, suc, _≤_, _<_, max}
 use native.Mathlib.Decide.{decLe, ℕ-discrete}
 use native.Mathlib.Omega.{arith}
-use Rattle.safety.proofs.Theory.Quorum.{Quorums}
-use Rattle.safety.proofs.Theory.Cluster.{Server, Seen, lastTerm}
-use Rattle.safety.proofs.Theory.Steps.{Rests, Backs, Passes}
+use Rattle.safety.specs.Quorum.{Quorums}
+use Rattle.safety.specs.Cluster.{Server, Seen, lastTerm}
+use Rattle.safety.specs.Steps.{Rests, Backs, Passes}
 use Rattle.safety.proofs.Leads.{Leads, term-of, terms-rise}
 use Rattle.safety.proofs.Inv.{Acks, Settled, Inv, replaced}
 use Rattle.safety.proofs.Moves.{In, moves-inv, rests-refl}

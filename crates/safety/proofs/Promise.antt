@@ -33,11 +33,11 @@ use Rattle.steps.specs.declared.Outcome.{Outcome}
 use Rattle.singles.specs.MajorityRead.{commitTime, covered}
 use Rattle.rules.specs.Rules.{rowOf, stepOf}
 use Rattle.rules.proofs.Keeps.{step-fits}
-use Rattle.safety.proofs.Theory.Cluster.{Holds}
-use Rattle.safety.proofs.Theory.Steps.{Walk, stop, go}
-use Rattle.safety.proofs.Theory.Demand3.{LastFor, Demand3}
-use Rattle.safety.proofs.Theory.Time.{stamp}
-use Rattle.safety.proofs.Theory.View.{seenServer, view}
+use Rattle.safety.specs.Cluster.{Holds}
+use Rattle.safety.specs.Steps.{Walk, stop, go}
+use Rattle.safety.specs.Demand3.{LastFor, Demand3}
+use Rattle.safety.specs.Time.{stamp}
+use Rattle.safety.specs.View.{seenServer, view}
 use Rattle.safety.specs.Promise.{runOf, StepsFrom, Never9, entryOf, firstOf, holds, Shows, Kept, momentOf, Promised}
 use Rattle.safety.proofs.Quorum.{majorities, majority-count}
 use Rattle.safety.proofs.Time.{stamp-before, not-before-stamp}

@@ -3,9 +3,9 @@
 use mathlib.Core.Logic.{inl}
 use Prim.Native.Nat.{ℕ}
 use native.Mathlib.Omega.{arith}
-use Rattle.safety.proofs.Theory.Quorum.{Quorums}
-use Rattle.safety.proofs.Theory.Cluster.{Seen}
-use Rattle.safety.proofs.Theory.Steps.{Settles, stays, restarts, hears, Quiet}
+use Rattle.safety.specs.Quorum.{Quorums}
+use Rattle.safety.specs.Cluster.{Seen}
+use Rattle.safety.specs.Steps.{Settles, stays, restarts, hears, Quiet}
 use Rattle.safety.proofs.Leads.{Leads, log-begins}
 use Rattle.safety.proofs.Inv.{Acks, Settled, Inv}
 use Rattle.safety.proofs.Moves.{moves-inv}

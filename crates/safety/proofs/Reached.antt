@@ -5,9 +5,9 @@ use mathlib.Core.Bool.{true, false}
 use Prim.Native.Nat.{ℕ, zero, suc, _≤_, _<_}
 use native.Mathlib.Nat.{not-suc-le-zero}
 use native.Mathlib.Omega.{arith}
-use Rattle.safety.proofs.Theory.Quorum.{Quorums}
-use Rattle.safety.proofs.Theory.Cluster.{root, Seen}
-use Rattle.safety.proofs.Theory.Steps.{Goes, elects, writes, takes, quiet, passes, Fresh, Walk, stop, go}
+use Rattle.safety.specs.Quorum.{Quorums}
+use Rattle.safety.specs.Cluster.{root, Seen}
+use Rattle.safety.specs.Steps.{Goes, elects, writes, takes, quiet, passes, Fresh, Walk, stop, go}
 use Rattle.safety.proofs.Leads.{Leads, Grown, grown-refl, grown-trans}
 use Rattle.safety.proofs.Inv.{Acks, Inv}
 use Rattle.safety.proofs.Quiet.{quiet-inv}

@@ -24,11 +24,11 @@ use Rattle.steps.specs.declared.Step.the-variants.{Elect, Advances}
 use Rattle.wholes.specs.Elects.{notBehind, mayVote, allMayVote, newTerm}
 use Rattle.counts.specs.Advances.{backs, backers, passes, highestPassing, committedOf}
 use Rattle.rules.specs.Rules.{rowOf}
-use Rattle.safety.proofs.Theory.Quorum.{Quorums, Majority}
-use Rattle.safety.proofs.Theory.Cluster.{Server, NotBehind}
-use Rattle.safety.proofs.Theory.Steps.{Voted, Backs, elects}
-use Rattle.safety.proofs.Theory.Steps as T
-use Rattle.safety.proofs.Theory.View.{seenEntry, seenServer, view}
+use Rattle.safety.specs.Quorum.{Quorums, Majority}
+use Rattle.safety.specs.Cluster.{Server, NotBehind}
+use Rattle.safety.specs.Steps.{Voted, Backs, elects}
+use Rattle.safety.specs.Steps as T
+use Rattle.safety.specs.View.{seenEntry, seenServer, view}
 use Rattle.safety.proofs.Views.{here, others, changed-view}
 use Rattle.safety.proofs.SeenQuiet.{Sees}
 

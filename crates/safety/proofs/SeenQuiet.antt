@@ -22,10 +22,10 @@ use Rattle.singles.specs.WallClock.{tickedOf}
 use Rattle.singles.specs.Restarts.{restartedOf}
 use Rattle.wholes.specs.ClocksAgree.{greatestClock}
 use Rattle.rules.specs.Rules.{rowOf, rulesOf, doneOf}
-use Rattle.safety.proofs.Theory.Quorum.{Quorums}
-use Rattle.safety.proofs.Theory.Cluster.{Server}
-use Rattle.safety.proofs.Theory.Steps.{Settles, stays, restarts, hears, Rests, Goes}
-use Rattle.safety.proofs.Theory.View.{seenEntry, seenServer, view}
+use Rattle.safety.specs.Quorum.{Quorums}
+use Rattle.safety.specs.Cluster.{Server}
+use Rattle.safety.specs.Steps.{Settles, stays, restarts, hears, Rests, Goes}
+use Rattle.safety.specs.View.{seenEntry, seenServer, view}
 use Rattle.safety.proofs.Joins.{alone, unchanged}
 use Rattle.safety.proofs.Views.{here, others, not-shown, changed-view}
 

@@ -29,10 +29,10 @@ use Rattle.steps.proofs.Decided.{Broken, here as broken-here, later}
 use Rattle.pairs.specs.Pulls.{tookOf}
 use Rattle.pairs.specs.RollsBack.{common, rollRules}
 use Rattle.rules.specs.Rules.{rowOf, apart}
-use Rattle.safety.proofs.Theory.Quorum.{Quorums}
-use Rattle.safety.proofs.Theory.Cluster.{Agree, Server, Seen}
-use Rattle.safety.proofs.Theory.Steps.{Copies, pulls, rollsBack, Goes, takes, Fresh, Walk}
-use Rattle.safety.proofs.Theory.View.{seenEntry, seenServer, view}
+use Rattle.safety.specs.Quorum.{Quorums}
+use Rattle.safety.specs.Cluster.{Agree, Server, Seen}
+use Rattle.safety.specs.Steps.{Copies, pulls, rollsBack, Goes, takes, Fresh, Walk}
+use Rattle.safety.specs.View.{seenEntry, seenServer, view}
 use Rattle.safety.proofs.Joins.{pulled, no-refusal-9}
 use Rattle.safety.proofs.Views.{in-range, here, others, holds-common}
 use Rattle.safety.proofs.SeenQuiet.{Sees}

@@ -24,11 +24,11 @@ use Rattle.cluster.proofs.Good.{Good, ServerGood}
 use Rattle.steps.specs.declared.Step.the-variants.{Writes}
 use Rattle.singles.specs.Writes.{ticks, tickTime, entryOf, wroteOf}
 use Rattle.rules.specs.Rules.{rowOf}
-use Rattle.safety.proofs.Theory.Quorum.{Quorums}
-use Rattle.safety.proofs.Theory.Cluster.{Server}
-use Rattle.safety.proofs.Theory.Steps.{writes}
-use Rattle.safety.proofs.Theory.Time.{stamp}
-use Rattle.safety.proofs.Theory.View.{seenEntry}
+use Rattle.safety.specs.Quorum.{Quorums}
+use Rattle.safety.specs.Cluster.{Server}
+use Rattle.safety.specs.Steps.{writes}
+use Rattle.safety.specs.Time.{stamp}
+use Rattle.safety.specs.View.{seenEntry}
 use Rattle.safety.proofs.Time.{before-stamp}
 use Rattle.safety.proofs.Views.{in-range, here, others, fits-time}
 use Rattle.safety.proofs.SeenQuiet.{Sees}

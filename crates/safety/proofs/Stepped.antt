@@ -24,9 +24,9 @@ use Rattle.steps.specs.Refusals.{refusalNumber, Rules}
 use Rattle.steps.specs.Answers.{refusingAll}
 use Rattle.steps.proofs.Decided.{Clear, Broken, here, later, clear-or-broken, decided-clear, decided-broken}
 use Rattle.rules.specs.Rules.{rowOf, rulesOf, doneOf, coreOf, isStart, stepOf}
-use Rattle.safety.proofs.Theory.Quorum.{Quorums, Majority}
-use Rattle.safety.proofs.Theory.Steps.{Goes, Walk}
-use Rattle.safety.proofs.Theory.View.{view}
+use Rattle.safety.specs.Quorum.{Quorums, Majority}
+use Rattle.safety.specs.Steps.{Goes, Walk}
+use Rattle.safety.specs.View.{view}
 use Rattle.safety.proofs.Joins.{unchanged}
 use Rattle.safety.proofs.Quorum.{majorities}
 use Rattle.safety.proofs.Views.{fresh-seen}

@@ -6,9 +6,9 @@ use mathlib.Core.Bool.{true, false}
 use Prim.Native.Nat.{ℕ, _≤_, max}
 use native.Mathlib.Decide.{decLe}
 use native.Mathlib.Omega.{arith}
-use Rattle.safety.proofs.Theory.Quorum.{Quorums}
-use Rattle.safety.proofs.Theory.Cluster.{Log, Seen, lastTerm, Holds, NotBehind}
-use Rattle.safety.proofs.Theory.Steps.{Takes}
+use Rattle.safety.specs.Quorum.{Quorums}
+use Rattle.safety.specs.Cluster.{Log, Seen, lastTerm, Holds, NotBehind}
+use Rattle.safety.specs.Steps.{Takes}
 use Rattle.safety.proofs.Leads.{Leads, Rooted, term-of, rooted-agree}
 use Rattle.safety.proofs.Inv.{Acks, Settled, Open, Inv, settled-holds, still-open, replaced, reaches}
 use Rattle.safety.proofs.Inv.{still-behind, not-lost, may-copy}

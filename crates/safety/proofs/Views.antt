@@ -27,10 +27,10 @@ use Rattle.cluster.specs.Ranges.{Fits}
 use Rattle.cluster.specs.Servers.{mostServers, pastServer, zeroCluster, startedOf, freshCluster, serverCount, serverAt, withServer}
 use Rattle.cluster.proofs.Fresh.{fresh-at, fresh-past}
 use Rattle.cluster.proofs.Changed.{replaced-here, replaced-others, changed-at}
-use Rattle.safety.proofs.Theory.Quorum.{Quorums}
-use Rattle.safety.proofs.Theory.Cluster.{Entry, Server, Holds, Others}
-use Rattle.safety.proofs.Theory.Steps.{Goes, Fresh}
-use Rattle.safety.proofs.Theory.View.{seenEntry, seenServer, view}
+use Rattle.safety.specs.Quorum.{Quorums}
+use Rattle.safety.specs.Cluster.{Entry, Server, Holds, Others}
+use Rattle.safety.specs.Steps.{Goes, Fresh}
+use Rattle.safety.specs.View.{seenEntry, seenServer, view}
 use Rattle.safety.proofs.Joins.{unchanged}
 use Rattle.safety.proofs.Time.{stamp-same}
 

@@ -6,9 +6,9 @@ use mathlib.Core.Bool.{true}
 use Prim.Native.Nat.{ℕ, suc, _≤_, _<_}
 use native.Mathlib.Decide.{decLe, ℕ-discrete}
 use native.Mathlib.Omega.{arith}
-use Rattle.safety.proofs.Theory.Quorum.{Quorums}
-use Rattle.safety.proofs.Theory.Cluster.{Entry, Seen, lastTerm, NotBehind}
-use Rattle.safety.proofs.Theory.Steps.{Writes}
+use Rattle.safety.specs.Quorum.{Quorums}
+use Rattle.safety.specs.Cluster.{Entry, Seen, lastTerm, NotBehind}
+use Rattle.safety.specs.Steps.{Writes}
 use Rattle.safety.proofs.Leads.{Leads, Rooted, rooted-agree, terms-rise, times-rise, log-begins, Grown, grown-rooted}
 use Rattle.safety.proofs.Leads.{Leading, led, led-lead, led-own, led-grown, led-rooted, led-tree}
 use Rattle.safety.proofs.Inv.{Acks, Settled, Open, LogOf, Has, Inv, settled-holds, acknowledged, replaced, reaches}

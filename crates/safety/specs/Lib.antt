@@ -1,2 +1,9 @@
--- Demand 3 as it is promised of records. Assumes nothing.
+-- `Promise` is demand 3 as it is promised of records. The others are the safety theory's own words, from quorums up to demand 3 over a view
+-- of the record: nobody has to believe those, since `Promise` is stated without them. Assumes nothing.
 pub mod Promise
+pub mod Quorum
+pub mod Cluster
+pub mod Steps
+pub mod Demand3
+pub mod Time
+pub mod View

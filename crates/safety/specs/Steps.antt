@@ -3,8 +3,8 @@
 use mathlib.Core.Path.{_≡_}
 use mathlib.Core.Bool.{Bool, true, false}
 use Prim.Native.Nat.{ℕ, suc, _≤_, _<_, max}
-use Rattle.safety.proofs.Theory.Quorum.{Quorums}
-use Rattle.safety.proofs.Theory.Cluster.{Entry, root, Agree, Server, Seen, lastTerm, appliedTime, NotBehind, Others}
+use Rattle.safety.specs.Quorum.{Quorums}
+use Rattle.safety.specs.Cluster.{Entry, root, Agree, Server, Seen, lastTerm, appliedTime, NotBehind, Others}
 
 -- the log of s is still that of r
 pub record SameLog (r s : Server) : Type 0 where

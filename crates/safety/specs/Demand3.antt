@@ -4,8 +4,8 @@ use mathlib.Core.Path.{_≡_}
 use mathlib.Core.Logic.{_≢_}
 use mathlib.Core.Bool.{true}
 use Prim.Native.Nat.{ℕ, _≤_, _<_}
-use Rattle.safety.proofs.Theory.Quorum.{Quorums}
-use Rattle.safety.proofs.Theory.Cluster.{Entry, Log, Server, Seen, commitTime, Holds}
+use Rattle.safety.specs.Quorum.{Quorums}
+use Rattle.safety.specs.Cluster.{Entry, Log, Server, Seen, commitTime, Holds}
 
 -- the last entry for key x among the first m entries of L stands at p
 pub record LastFor (L : Log) (x m p : ℕ) : Type 0 where

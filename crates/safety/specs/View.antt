@@ -6,8 +6,8 @@ use Rattle.log.specs.Logs.{live, lengthOf}
 use Rattle.cluster.specs.declared.Server.{Server as RecordServer}
 use Rattle.cluster.specs.declared.Cluster.{Cluster}
 use Rattle.cluster.specs.Servers.{serverAt}
-use Rattle.safety.proofs.Theory.Cluster.{Entry, Server, Seen}
-use Rattle.safety.proofs.Theory.Time.{stamp}
+use Rattle.safety.specs.Cluster.{Entry, Server, Seen}
+use Rattle.safety.specs.Time.{stamp}
 
 abbrev pub seenEntry : LogEntry → Entry
 seenEntry e = record { term = e .term; key = e .key; value = e .value; time = stamp (e .time) }
