@@ -1,4 +1,4 @@
--- What the definitions of frames give where a wrong program differs. Assumes nothing.
+-- What the definitions of words, frames and answers give where a wrong program differs. Assumes nothing.
 use mathlib.Core.Path.{_≡_, refl}
 use mathlib.Core.List.{[], _∷_}
 use lib.ListN.{take, drop, replicate}
@@ -9,17 +9,25 @@ use Rattle.steps.specs.declared.Refusal.the-variants.{NoSuchEntry}
 use Rattle.steps.specs.declared.Step.the-variants.{Writes, MajorityRead}
 use Rattle.hex.specs.Digits.{digitOf, charOf, byteOf}
 use Rattle.hex.specs.Lines.{allHex}
-use Rattle.frames.specs.declared.ReadAnswer.the-variants.{NoFrame}
-use Rattle.frames.specs.Lines.{highOf, lowOf, wordOf, framed}
+use Rattle.answers.specs.declared.ReadAnswer.the-variants.{NoFrame}
+use Rattle.words.specs.Words.{highOf, lowOf, wordOf, framed}
 use Rattle.frames.specs.Steps.{frameFor, bytesOfFrame, writeStep}
-use Rattle.frames.specs.Answers.{answerFrame, writeAnswer, refusalOf, tellingBy, tellingIn, readAnswer}
+use Rattle.answers.specs.Answers.{answerFrame, writeAnswer, refusalOf, tellingBy, tellingIn, readAnswer}
 use Rattle.apart.proofs.Things.{at}
 
--- the characters 0, 1, 2, 9, a and b are 48, 49, 50, 57, 97 and 98; the number stands at the characters 10 to 13
+pub high-and-low-swapped : (highOf 256 ≡ 1) × (lowOf 256 ≡ 0)
+unfolding highOf lowOf
+high-and-low-swapped = (refl, refl)
 
-pub step-low-byte-first : take 4 (drop 10 (writeStep (Writes 0 5 41))) ≡ 48 ∷ 48 ∷ 50 ∷ 57 ∷ []
+pub byte-of-255-values : (highOf 255 ≡ 0) × (lowOf 255 ≡ 255) × (wordOf 1 0 ≡ 256)
+unfolding highOf lowOf wordOf
+byte-of-255-values = (refl, refl, refl)
+
+-- the characters 0, 1, a and b are 48, 49, 97 and 98; the number stands at the characters 10 to 13
+
+pub step-with-a-byte-of-the-term : take 4 (drop 10 (writeStep (Writes 0 5 256))) ≡ 48 ∷ 49 ∷ 48 ∷ 48 ∷ []
 unfolding charOf highOf lowOf frameFor bytesOfFrame
-step-low-byte-first = refl
+step-with-a-byte-of-the-term = refl
 
 pub step-in-upper-case : take 2 (writeStep (MajorityRead 0 5 (at 0 0))) ≡ 48 ∷ 98 ∷ []
 unfolding charOf highOf lowOf frameFor bytesOfFrame

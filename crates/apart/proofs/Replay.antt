@@ -11,7 +11,7 @@ use Rattle.steps.specs.declared.Refusal.the-variants.{NotAFrame, IllFormed}
 use Rattle.steps.specs.declared.Step.the-variants.{Start, ClocksAgree}
 use Rattle.rules.specs.Rules.{stepOf}
 use Rattle.frames.specs.declared.ReadStep.the-variants as R
-use Rattle.frames.specs.Lines.{framed}
+use Rattle.words.specs.Words.{framed}
 use Rattle.frames.specs.Steps.{bytesOfFrame, writeStep, readStep}
 use Rattle.replay.specs.declared.Reader.{Reader}
 use Rattle.replay.specs.declared.Plan.the-variants.{Refuse, Record}

@@ -7,4 +7,5 @@ pub mod Highest
 pub mod Greatest
 pub mod Each
 pub mod Joined
+pub mod Cases
 pub mod Results

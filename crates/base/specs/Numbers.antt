@@ -1,6 +1,10 @@
--- Tests on the numbers below a bound: all of them, how many, the highest, the greatest of a value. Assumes nothing.
+-- How many values a byte has; and tests on the numbers below a bound: all of them, how many, the highest, the greatest of a value. Assumes nothing.
 use mathlib.Core.Bool.{Bool, true, cond, _&&_}
-use Prim.Native.Nat.{ℕ, zero, suc, _+_, max}
+use Prim.Native.Nat.{ℕ, zero, suc, _+_, _^_, max}
+
+-- how many values a byte has
+abbrev pub byte : ℕ
+byte = 2 ^ 8
 
 -- every number below n passes
 unfoldable pub every : ℕ → (ℕ → Bool) → Bool

@@ -1,7 +1,7 @@
 -- The language's count of a mask's ones is the number of members; two majorities share a member. Assumes nothing.
 use mathlib.Core.Path.{_≡_, refl, ap, ap₂, sym, _∙_}
 use mathlib.Core.Bool.{Bool, true, false, cond, not, _||_}
-use mathlib.Core.Logic.{_⊎_, ⊎-elim}
+use mathlib.Core.Logic.{⊎-elim}
 use Prim.Native.Nat.{ℕ, zero, suc, _/_, _%_, _^_, _+_, _-_, _*_, _<_, _≤_}
 use native.Mathlib.Nat.{pow-suc, mul-comm, div-div-eq-div-mul, div-eq-of-lt, div-lt-iff-lt-mul, lt-of-lt-of-le}
 use native.Mathlib.Omega.{arith}

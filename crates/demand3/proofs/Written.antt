@@ -19,10 +19,10 @@ use Rattle.steps.specs.declared.Telling.the-variants.{Numbers, Refusing}
 use Rattle.steps.specs.Answers.{tellingOf}
 use Rattle.hex.specs.Digits.{radix, ten, char0, charA, charOf}
 use Rattle.hex.specs.Lines.{hexOf}
-use Rattle.frames.specs.declared.ReadAnswer.the-variants as A
-use Rattle.frames.specs.Lines.{framed}
-use Rattle.frames.specs.Answers.{answerFrame, bytesOfTelling, writeTelling, writeAnswer, readAnswer}
-use Rattle.frames.proofs.Answers.{read-written-telling, written-read-telling}
+use Rattle.answers.specs.declared.ReadAnswer.the-variants as A
+use Rattle.words.specs.Words.{framed}
+use Rattle.answers.specs.Answers.{answerFrame, bytesOfTelling, writeTelling, writeAnswer, readAnswer}
+use Rattle.answers.proofs.Answers.{read-written-telling, written-read-telling}
 use Rattle.replay.specs.Texts.{lineFeed, lines, answerTo, lineOf, answersTo}
 use Rattle.demand3.specs.Promise.{Line, Never9On, Never9Written}
 use Rattle.demand3.proofs.Never9.{never-9-text}

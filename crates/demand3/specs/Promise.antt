@@ -14,9 +14,9 @@ use Rattle.steps.specs.declared.Answer.the-variants.{Done, Value, Refused}
 use Rattle.steps.specs.declared.Telling.the-variants.{Refusing}
 use Rattle.steps.specs.declared.Refusal.the-variants.{BelowCommitPoint}
 use Rattle.frames.specs.declared.ReadStep.the-variants as R
-use Rattle.frames.specs.declared.ReadAnswer.the-variants as A
+use Rattle.answers.specs.declared.ReadAnswer.the-variants as A
 use Rattle.frames.specs.Steps.{readStep}
-use Rattle.frames.specs.Answers.{readAnswer}
+use Rattle.answers.specs.Answers.{readAnswer}
 use Rattle.replay.specs.Texts.{lines, answerTo, recordAfter, answers}
 use Rattle.safety.specs.Promise.{entryOf, Shows, Kept}
 

@@ -5,7 +5,7 @@ ghost use Rattle.clock.specs.Ranges.{FitsTime};
 ghost use Rattle.log.specs.Ranges.{FitsEntry, FitsLog};
 ghost use Rattle.cluster.specs.Ranges.{FitsServer, Fits};
 ghost use Rattle.steps.specs.Ranges.{FitsStep};
-ghost use Rattle.frames.specs.Ranges.{FitsTelling};
+ghost use Rattle.answers.specs.Ranges.{FitsTelling};
 use clock::Time;
 use cluster::Cluster;
 use cluster::Server;

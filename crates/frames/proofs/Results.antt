@@ -2,10 +2,8 @@
 use mathlib.Core.List.{List}
 use Prim.Native.Nat.{ℕ}
 use Rattle.base.proofs.Results.{OneResult, one-result}
-use Rattle.steps.specs.declared.Answer.{Answer}
 use Rattle.steps.specs.declared.Step.{Step}
 use Rattle.frames.specs.Steps.{readStep, writeStep}
-use Rattle.frames.specs.Answers.{readAnswer, writeAnswer}
 
 pub read-step : (line : List ℕ) → OneResult (readStep line)
 read-step line = one-result (readStep line)
@@ -15,9 +13,3 @@ read-frame chars = one-result (readStep chars)
 
 pub write-step : (s : Step) → OneResult (writeStep s)
 write-step s = one-result (writeStep s)
-
-pub write-answer : (a : Answer) → OneResult (writeAnswer a)
-write-answer a = one-result (writeAnswer a)
-
-pub read-answer : (line : List ℕ) → OneResult (readAnswer line)
-read-answer line = one-result (readAnswer line)

@@ -8,14 +8,14 @@ use lib.Dec.{eqb}
 use lib.ListN.{length}
 use Rattle.base.proofs.Every.{every-at}
 use Rattle.clock.specs.Times.{limit}
-use Rattle.steps.specs.Ranges.{byte}
+use Rattle.base.specs.Numbers.{byte}
 use Rattle.hex.proofs.Trips.{Bytes, byte-below}
 use Rattle.frames.specs.declared.Frame.{Frame}
-use Rattle.frames.specs.Lines.{byteAt}
+use Rattle.words.specs.Words.{byteAt}
 use Rattle.frames.specs.Layout.{stepBytes, mustBeZero, byteOk, isClean}
 use Rattle.frames.specs.Steps.{bytesOfFrame, frameOf}
-use Rattle.frames.proofs.Cases.{_▸_}
-use Rattle.frames.proofs.Bytes.{high-word, low-word, word-parts, high-below, low-below, word-below, listOf, listed, listed-same}
+use Rattle.base.proofs.Cases.{_▸_}
+use Rattle.words.proofs.Bytes.{high-word, low-word, word-parts, high-below, low-below, word-below, listOf, listed, listed-same}
 
 -- every field fits its bytes
 pub record FitsFrame (f : Frame) : Type 0 where

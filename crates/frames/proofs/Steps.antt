@@ -16,11 +16,11 @@ use Rattle.hex.specs.Lines.{bytesOf, hexOf}
 use Rattle.hex.proofs.Trips.{Bytes, bytes-below}
 use Rattle.frames.specs.declared.Frame.{Frame}
 use Rattle.frames.specs.declared.ReadStep.the-variants as R
-use Rattle.frames.specs.Lines.{highOf, lowOf, byteAt}
+use Rattle.words.specs.Words.{highOf, lowOf, byteAt}
 use Rattle.frames.specs.Layout.{stepBytes, kinds, kindAt, isClean}
 use Rattle.frames.specs.Steps.{fields, frameFor, bytesOfFrame, frameOf, stepOf, stepIn, readStep, writeStep}
-use Rattle.frames.proofs.Cases.{_▸_, case-at}
-use Rattle.frames.proofs.Framed.{framed-hex, is-frame}
+use Rattle.base.proofs.Cases.{_▸_, case-at}
+use Rattle.words.proofs.Framed.{framed-hex, is-frame}
 use Rattle.frames.proofs.Unknown.{unknown-kind}
 use Rattle.frames.proofs.Lengths.{frame-length}
 use Rattle.frames.proofs.StepFrames.{FitsFrame, frame-bytes, bytes-fit, fields-of-bytes, bytes-of-fields, masked, clean-masked}

@@ -7,7 +7,7 @@ use lib.ListN.{List·getD-eq-default}
 use Rattle.frames.specs.declared.Frame.{Frame}
 use Rattle.frames.specs.declared.ReadStep.{ReadStep}
 use Rattle.frames.specs.declared.ReadStep.the-variants.{NoFrame}
-use Rattle.frames.specs.Lines.{byteAt}
+use Rattle.words.specs.Words.{byteAt}
 use Rattle.frames.specs.Layout.{kinds, kindAt, isClean}
 use Rattle.frames.specs.Steps.{frameOf, stepsOf, stepOf, stepIn}
 

@@ -5,7 +5,7 @@ use Prim.Native.Nat.{ℕ, _/_, _%_, _^_}
 use lib.Dec.{eqb}
 use lib.ListN.{getD}
 use Rattle.base.specs.Numbers.{every}
-use Rattle.frames.specs.Lines.{byteAt}
+use Rattle.words.specs.Words.{byteAt}
 
 abbrev pub stepBytes : ℕ
 stepBytes = 13

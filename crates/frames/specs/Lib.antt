@@ -1,6 +1,3 @@
--- Step frames and answer frames as 01 lays them out. Assumes nothing.
-pub mod Lines
+-- Step frames as 01 lays them out. Assumes nothing.
 pub mod Layout
 pub mod Steps
-pub mod Answers
-pub mod Ranges

@@ -11,7 +11,7 @@ use Rattle.hex.specs.Lines.{hexOf}
 use Rattle.frames.specs.declared.Frame.{Frame}
 use Rattle.frames.specs.declared.ReadStep.{ReadStep}
 use Rattle.frames.specs.declared.ReadStep.the-variants as R
-use Rattle.frames.specs.Lines.{highOf, lowOf, byteAt, wordAt, framed}
+use Rattle.words.specs.Words.{highOf, lowOf, byteAt, wordAt, framed}
 use Rattle.frames.specs.Layout.{stepBytes, kindAt, aAt, bAt, setAt, keyAt, numberAt, termAt, pAt, lAt, isClean}
 
 abbrev pub fields : ℕ → ℕ → ℕ → ℕ → ℕ → ℕ → ℕ → Time → Frame

@@ -2,6 +2,7 @@
 use mathlib.Core.Path.{_≡_}
 use Prim.Native.Nat.{ℕ, _<_, _≤_, _^_}
 use lib.ListN.{length, getD}
+use Rattle.base.specs.Numbers.{byte}
 use Rattle.clock.specs.Times.{limit}
 use Rattle.clock.specs.Ranges.{FitsTime}
 use Rattle.log.specs.declared.Entry.{Entry}
@@ -11,7 +12,7 @@ use Rattle.log.specs.Logs.{logLimit}
 
 pub record FitsEntry (e : Entry) : Type 0 where
   pub term : e .term ≤ limit
-  pub key : e .key < 2 ^ 8
+  pub key : e .key < byte
   pub value : e .value ≤ limit
   pub time : FitsTime (e .time)
 

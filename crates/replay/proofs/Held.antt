@@ -8,7 +8,7 @@ use lib.ListN.{length, take, length-take}
 use lib.Seq.{take-all}
 use borrow.Author.Tests.{le-leb, ne-eqb, leb-true}
 use Rattle.frames.specs.declared.ReadStep.the-variants.{NoFrame}
-use Rattle.frames.specs.Lines.{framed}
+use Rattle.words.specs.Words.{framed}
 use Rattle.frames.specs.Steps.{readStep}
 use mathlib.Core.List.{List}
 use Rattle.replay.specs.declared.Reader.{Reader}

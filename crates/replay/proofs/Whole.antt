@@ -12,9 +12,9 @@ use lib.Seq.{take-suc-set}
 use Rattle.steps.specs.declared.Answer.{Answer}
 use Rattle.steps.specs.declared.Outcome.{Outcome}
 use Rattle.steps.specs.Answers.{tellingOf}
-use Rattle.frames.specs.Answers.{writeAnswer}
-use Rattle.frames.specs.Lines.{framed}
-use Rattle.frames.proofs.Lengths.{answer-line-length}
+use Rattle.answers.specs.Answers.{writeAnswer}
+use Rattle.words.specs.Words.{framed}
+use Rattle.answers.proofs.Lengths.{answer-line-length}
 use Rattle.cluster.specs.declared.Cluster.{Cluster}
 use Rattle.replay.specs.declared.Reader.{Reader}
 use Rattle.replay.specs.declared.Session.{Session}

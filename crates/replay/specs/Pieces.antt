@@ -7,7 +7,7 @@ use lib.Dec.{ltb, leb, eqb}
 use lib.ListN.{length, take, drop, set, replicate}
 use Rattle.cluster.specs.declared.Cluster.{Cluster}
 use Rattle.frames.specs.Layout.{stepBytes}
-use Rattle.frames.specs.Answers.{answerBytes}
+use Rattle.answers.specs.Answers.{answerBytes}
 use Rattle.hex.specs.Lines.{chars}
 use Rattle.replay.specs.declared.Reader.{Reader}
 use Rattle.replay.specs.declared.Session.{Session}

@@ -12,7 +12,7 @@ use Rattle.rules.specs.Rules.{stepOf}
 use Rattle.frames.specs.declared.ReadStep.{ReadStep}
 use Rattle.frames.specs.declared.ReadStep.the-variants.{Step, NoFrame}
 use Rattle.frames.specs.Steps.{readStep}
-use Rattle.frames.specs.Answers.{writeAnswer}
+use Rattle.answers.specs.Answers.{writeAnswer}
 
 abbrev pub lineFeed : ℕ
 lineFeed = 10

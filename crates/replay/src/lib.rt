@@ -16,7 +16,7 @@ use steps::Step;
 const LINE_FEED: u8 = 10;
 
 // How many bytes an answer line has.
-pub const ANSWER_LINE: usize = frames::ANSWER_CHARS + 1;
+pub const ANSWER_LINE: usize = answers::ANSWER_CHARS + 1;
 
 // The line that is being read: at most a frame's characters, how many there are, and whether there were more.
 pub struct Reader {
@@ -179,9 +179,9 @@ fn put(out: &mut [u8], at: usize, a: Answer)
     requires { ⌜ at + answerLine ≤ length (now out) ⌝ }
     ensures { λ _. ⌜ now (out .exit) ≡ placed (now (out .entry)) at (lineOf a) ⌝ }
 {
-    let f = frames::write_answer(a);
+    let f = answers::write_answer(a);
     copy_in(&f, out, at);
-    out[at + frames::ANSWER_CHARS] = LINE_FEED;
+    out[at + answers::ANSWER_CHARS] = LINE_FEED;
 }
 
 // A session part of the way along a text.

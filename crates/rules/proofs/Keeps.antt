@@ -24,7 +24,8 @@ use Rattle.cluster.proofs.Masks.{within-member}
 use Rattle.steps.specs.declared.Outcome.{Outcome}
 use Rattle.steps.specs.declared.Step.{Step}
 use Rattle.steps.specs.declared.Step.the-variants.{Start, Elect, StepDown, Hears, Pulls, RollsBack, Writes, Advances, WallClock, Restarts, LocalRead, MajorityRead, Acknowledged, ClocksAgree}
-use Rattle.steps.specs.Ranges.{byte, FitsStep}
+use Rattle.base.specs.Numbers.{byte}
+use Rattle.steps.specs.Ranges.{FitsStep}
 use Rattle.steps.proofs.Decided.{Clear}
 use Rattle.wholes.specs.Elects.{mayVote, allMayVote, electRules, newTerm}
 use Rattle.counts.specs.Advances.{passes, highestPassing, advanceDone}

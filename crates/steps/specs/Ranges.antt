@@ -1,12 +1,10 @@
 -- What the type of a step gives: every field fits its bytes. Assumes nothing.
-use Prim.Native.Nat.{ℕ, _<_, _≤_, _^_}
+use Prim.Native.Nat.{_<_, _≤_}
+use Rattle.base.specs.Numbers.{byte}
 use Rattle.clock.specs.Times.{limit}
 use Rattle.clock.specs.Ranges.{FitsTime}
 use Rattle.steps.specs.declared.Step.{Step}
 use Rattle.steps.specs.declared.Step.the-variants.{Start, Elect, StepDown, Hears, Pulls, RollsBack, Writes, Advances, WallClock, Restarts, LocalRead, MajorityRead, Acknowledged, ClocksAgree}
-
-abbrev pub byte : ℕ
-byte = 2 ^ 8
 
 abbrev pub FitsStep : Step → Type 0
 FitsStep (Start a) = a < byte

@@ -2,7 +2,7 @@
 use borrow.Fn as fn
 use Rattle.fits.proofs.telling_fits.Lts.{ps, dens}
 use Rattle.steps.specs.declared.Telling.the-variants.{Numbers, Refusing}
-use Rattle.frames.specs.Ranges.{FitsTelling}
+use Rattle.answers.specs.Ranges.{FitsTelling}
 use Rattle.steps.specs.declared.Telling.{Telling}
 use mathlib.Core.Path.{refl}
 use borrow.Author.Needs.{needs}

@@ -1,6 +1,6 @@
 -- `frames::frame_of` meets its contract. Assumes nothing.
 use Rattle.frames.specs.declared.Frame.{Frame}
-use Rattle.frames.specs.Lines.{byteAt, wordAt}
+use Rattle.words.specs.Words.{byteAt, wordAt}
 use Rattle.frames.specs.Layout.{kindAt, aAt, bAt, setAt, keyAt, numberAt, termAt, pAt, lAt}
 use Rattle.frames.specs.Steps.{fields, frameOf}
 use mathlib.Core.List.{List}

@@ -2,7 +2,7 @@
 use Rattle.frames.specs.declared.ReadStep.the-variants.{NoFrame}
 use Rattle.frames.specs.Layout.{stepBytes}
 use Rattle.frames.specs.Steps.{stepIn}
-use Rattle.frames.proofs.Framed.{framed-other, framed-spoilt, framed-unhexed}
+use Rattle.words.proofs.Framed.{framed-other, framed-spoilt, framed-unhexed}
 use Rattle.base.proofs.Bools.{said-no, said-yes}
 use mathlib.Core.Path.{_∙_}
 use borrow.Author.Needs.{needs}

@@ -6,8 +6,8 @@ use native.Mathlib.Omega.{arith}
 use lib.ListN.{length, getD, set, take, drop, length-append}
 use lib.Seq.{drop-cons, set-at, append-snoc, length-take-le}
 use Rattle.steps.specs.declared.Answer.{Answer}
-use Rattle.frames.specs.Answers.{writeAnswer}
-use Rattle.frames.proofs.Lengths.{answer-line-length}
+use Rattle.answers.specs.Answers.{writeAnswer}
+use Rattle.answers.proofs.Lengths.{answer-line-length}
 use Rattle.steps.specs.Answers.{tellingOf}
 use Rattle.replay.specs.Pieces.{placed}
 use Rattle.replay.specs.Texts.{lineOf}

@@ -1,5 +1,5 @@
 -- `frames::masks::is_clean` meets its contract. Assumes nothing.
-use Rattle.frames.specs.Lines.{byteAt}
+use Rattle.words.specs.Words.{byteAt}
 use Rattle.frames.specs.Layout.{stepBytes, byteOk, isClean}
 use Rattle.base.specs.Numbers.{every}
 use Rattle.base.proofs.Bools.{said-no, said-yes}

@@ -1,0 +1,2 @@
+-- Numbers of two bytes, and lines of so many bytes. Assumes nothing.
+pub mod Words
