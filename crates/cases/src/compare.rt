@@ -1,63 +1,43 @@
-// Whether two records are the same bit for bit, in every slot.
+// What a step changed, looked for in every slot.
+use crate::numbers;
+use crate::say;
 use cluster::Cluster;
 use cluster::Server;
 use log::Log;
 
+// Whether all slots are the same: both logs have them all as their common beginning when they are given the full length.
 fn same_slots(g: Log, h: Log) -> bool {
-    let mut i = 0;
-    while i < log::LOG_LIMIT {
-        let d = g.entries[i];
-        let e = h.entries[i];
-        if !log::same_entry(d, e) {
-            return false;
+    let mut a = g;
+    let mut b = h;
+    a.len = log::LOG_LIMIT;
+    b.len = log::LOG_LIMIT;
+    log::common_beginning(a, b) == log::LOG_LIMIT
+}
+
+// Writes server i where t isn't s. Whether all servers up to it are the same, where those before it are so far.
+fn same_server(i: usize, s: Server, t: Server, so_far: bool) -> bool {
+    let n = say::numbers_of(i, t);
+    let g = t.log;
+    if numbers::same(n, say::numbers_of(i, s)) {
+        let h = s.log;
+        if same_slots(g, h) {
+            return so_far;
         }
-        i += 1;
     }
-    true
+    say::row(b"server", n);
+    say::entries(i, g);
+    false
 }
 
-fn same_numbers(s: Server, t: Server) -> bool {
-    if s.log.len != t.log.len {
-        return false;
-    }
-    if s.term != t.term {
-        return false;
-    }
-    if s.primary != t.primary {
-        return false;
-    }
-    if s.commit != t.commit {
-        return false;
-    }
-    s.wall == t.wall
-}
-
-fn same_server(s: Server, t: Server) -> bool {
-    let x = s.time;
-    let y = t.time;
-    if !clock::same_time(x, y) {
-        return false;
-    }
-    if !same_numbers(s, t) {
-        return false;
-    }
-    let g = s.log;
-    let h = t.log;
-    same_slots(g, h)
-}
-
-pub(crate) fn same_record(c: Cluster, d: Cluster) -> bool {
-    if c.count != d.count {
-        return false;
-    }
-    let mut i = 0;
+// Writes the new count where there is one, and each server that isn't as it was, or `same`.
+pub(crate) fn changes(c: Cluster, d: Cluster) {
+    let mut same = say::same_count(c.count, d.count);
+    let mut i: usize = 0;
     while i < cluster::MOST_SERVERS {
         let s = c.servers[i];
         let t = d.servers[i];
-        if !same_server(s, t) {
-            return false;
-        }
+        same = same_server(i, s, t, same);
         i += 1;
     }
-    true
+    say::verdict(same);
 }

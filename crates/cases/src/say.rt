@@ -1,95 +1,107 @@
-// One line a case on standard output.
-use crate::compare::same_record;
-use cluster::Cluster;
+// Lines on standard output, in the words of the input.
+use crate::numbers::PLACES;
+use crate::record::ENTRY;
+use crate::record::SERVER;
 use cluster::Server;
+use libc::STDOUT_FILENO;
 use log::Entry;
+use log::Log;
 use steps::Answer;
-use steps::Refusal;
-use steps::Step;
-use steps::Telling;
 
-pub(crate) fn text(words: &[u8]) {
-    io::write_all(1, words);
+pub(crate) fn line(words: &[u8]) {
+    io::write_all(STDOUT_FILENO, words);
+    io::write_all(STDOUT_FILENO, b"\n");
 }
 
-fn number(n: u64) {
-    io::write_all(1, b" ");
-    io::print_decimal(1, n);
+// A line that can't be taken.
+pub(crate) fn unknown(words: &[u8]) {
+    io::write_all(STDOUT_FILENO, b"? ");
+    line(words);
 }
 
-fn refusal_number(r: Refusal) -> u64 {
-    match r {
-        Refusal::NotAFrame => 1,
-        Refusal::IllFormed => 2,
-        Refusal::OutOfRange => 3,
-        Refusal::WrongRole => 4,
-        Refusal::ConditionUnmet => 5,
-        Refusal::LogFull => 6,
-        Refusal::AtLimit => 7,
-        Refusal::NotYet => 8,
-        Refusal::BelowCommitPoint => 9,
-        Refusal::NoSuchEntry => 10,
+// A word and its numbers.
+pub(crate) fn row(word: &[u8], n: [usize; PLACES]) {
+    io::write_all(STDOUT_FILENO, word);
+    let mut k: usize = 1;
+    while k < PLACES {
+        if n[0] < k {
+            break;
+        }
+        io::write_all(STDOUT_FILENO, b" ");
+        io::print_decimal(STDOUT_FILENO, n[k] as u64);
+        k += 1;
     }
+    line(b"");
 }
 
-// What an answer frame says: 0, number, term, p, l; or a refusal alone.
 pub(crate) fn answer(a: Answer) {
-    let t = steps::told(a);
-    match t {
-        Telling::Numbers(n, term, time) => {
-            number(0);
-            number(n as u64);
-            number(term as u64);
-            number(time.p as u64);
-            number(time.l as u64);
-        }
-        Telling::Refusing(r) => {
-            number(refusal_number(r));
-        }
+    let chars = answers::write_answer(a);
+    line(&chars);
+}
+
+// The new server count where there is one; whether there is none.
+pub(crate) fn same_count(before: usize, after: usize) -> bool {
+    if before == after {
+        return true;
+    }
+    row(b"count", [1, after, 0, 0, 0, 0, 0, 0, 0]);
+    false
+}
+
+pub(crate) fn verdict(same: bool) {
+    if same {
+        line(b"same");
     }
 }
 
-// Whether the record after is the record before, bit for bit.
-pub(crate) fn untouched(c: Cluster, d: Cluster) {
-    if same_record(c, d) {
-        text(b" same;");
-    } else {
-        text(b" changed;");
+// The numbers of a line `server`.
+pub(crate) fn numbers_of(i: usize, s: Server) -> [usize; PLACES] {
+    [
+        SERVER,
+        i,
+        s.log.len,
+        s.term as usize,
+        if s.primary { 1 } else { 0 },
+        s.commit,
+        s.wall as usize,
+        s.time.p as usize,
+        s.time.l as usize,
+    ]
+}
+
+fn entry(i: usize, at: usize, e: Entry) {
+    row(
+        b"entry",
+        [
+            ENTRY,
+            i,
+            at,
+            e.term as usize,
+            e.key as usize,
+            e.value as usize,
+            e.time.p as usize,
+            e.time.l as usize,
+            0,
+        ],
+    );
+}
+
+// An entry of server i, where it is within the length or not zero.
+fn slot(i: usize, at: usize, len: usize, e: Entry) {
+    if len < at {
+        if log::same_entry(e, log::ZERO_ENTRY) {
+            return;
+        }
     }
+    entry(i, at, e);
 }
 
-// Length, term, role (1 primary), commit point, wall clock, p, l.
-fn server(s: Server) {
-    number(s.log.len as u64);
-    number(s.term as u64);
-    number(if s.primary { 1 } else { 0 });
-    number(s.commit as u64);
-    number(s.wall as u64);
-    number(s.time.p as u64);
-    number(s.time.l as u64);
-}
-
-// Term, key, value, p, l.
-fn entry(e: Entry) {
-    number(e.term as u64);
-    number(e.key as u64);
-    number(e.value as u64);
-    number(e.time.p as u64);
-    number(e.time.l as u64);
-}
-
-// The case's name, the answer, whether the record changed, server 0 afterwards, and its entry at position n.
-pub(crate) fn case(name: &[u8], c: Cluster, step: Step, n: usize) {
-    let o = rules::step(c, step);
-    let d = o.cluster;
-    let a = o.answer;
-    text(name);
-    answer(a);
-    untouched(c, d);
-    let s = d.servers[0];
-    server(s);
-    text(b";");
-    let g = s.log;
-    entry(log::entry_at(g, n));
-    text(b"\n");
+// The entries of server i, and what slots past the length have in them.
+pub(crate) fn entries(i: usize, g: Log) {
+    let mut k: usize = 0;
+    while k < log::LOG_LIMIT {
+        let e = g.entries[k];
+        k += 1;
+        slot(i, k, g.len, e);
+    }
 }

@@ -1,17 +1,17 @@
--- `cases::compare::same_record` is safe and ends. Assumes nothing.
+-- `cases::compare::changes` is safe and ends. Assumes nothing.
 use Prim.Native.Nat.{_≤_, _-_}
 use borrow.Author.Needs.{needs}
-use Rattle.cases.proofs.compare.same_record.Statement.{statement}
-use Rattle.cases.proofs.compare.same_record.Tie as tie
+use Rattle.cases.proofs.compare.changes.Statement.{statement}
+use Rattle.cases.proofs.compare.changes.Tie as tie
 
 abbrev Inv-loop : tie.InvT-loop
-Inv-loop c d i₀ i = i ≤ 7
+Inv-loop c d same₀ i₀ same i = i ≤ 7
 
 abbrev μ-loop : tie.MeasureT-loop
-μ-loop c d i₀ i = 7 - i
+μ-loop c d same₀ i₀ same i = 7 - i
 
-returns : tie.Need-returns Inv-loop μ-loop
-returns c = search needs
+same-count-requires : tie.Need-same-count-requires Inv-loop μ-loop
+same-count-requires c κs = search needs
 
 loop-holds : tie.Need-loop-holds Inv-loop μ-loop
 loop-holds c = search needs
@@ -31,9 +31,6 @@ element-copy-out-t c = search needs
 same-server-requires : tie.Need-same-server-requires Inv-loop μ-loop
 same-server-requires c κs = search needs
 
-returns-2 : tie.Need-returns-2 Inv-loop μ-loop
-returns-2 c = search needs
-
 add-i : tie.Need-add-i Inv-loop μ-loop
 add-i c = search needs
 
@@ -43,24 +40,27 @@ loop-less c = search needs
 loop-again : tie.Need-loop-again Inv-loop μ-loop
 loop-again c = search needs
 
-returns-3 : tie.Need-returns-3 Inv-loop μ-loop
-returns-3 c = search needs
+verdict-requires : tie.Need-verdict-requires Inv-loop μ-loop
+verdict-requires c κs = search needs
 
-pub same-record-spec : {M : Type 1} → statement M
-same-record-spec =
+returns : tie.Need-returns Inv-loop μ-loop
+returns c = search needs
+
+pub changes-spec : {M : Type 1} → statement M
+changes-spec =
     tie.close
     (tie.spec
     Inv-loop
     μ-loop
-    returns
+    same-count-requires
     loop-holds
     mul-s
     element-copy-out-s
     mul-t
     element-copy-out-t
     same-server-requires
-    returns-2
     add-i
     loop-less
     loop-again
-    returns-3)
+    verdict-requires
+    returns)
