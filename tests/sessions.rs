@@ -1,14 +1,16 @@
 //! A seeded generator of test sessions. It runs the model along with the lines it writes, so that
 //! most of its steps are allowed. `sessions --help` tells the use.
 
+mod draws;
+mod frames;
 mod junk;
 mod lines;
 mod model;
 
+use frames::{frame_of, line_of};
 use junk::Prng;
-use lines::{FRAME, LINE, put_numbers, read_line, write_bytes};
-use model::{CONDITIONS, ENTRIES, KINDS, SERVERS};
-use model::{Cluster, Condition, Numbers, Role, Server, Step, Time, step};
+use lines::read_line;
+use model::{CONDITIONS, Cluster, Condition, ENTRIES, KINDS, Server, Step, step};
 use std::io::{self, Write};
 use std::process::ExitCode;
 
@@ -30,9 +32,6 @@ const AFTER_CLIMB: usize = 300;
 const PAST_A_BYTE: u16 = 280;
 /// The lines that a short climb or a session of overwriting has room in.
 const SPECIAL: usize = 1_500;
-/// How often each kind is drawn among ordinary steps.
-const WEIGHTS: [usize; KINDS] = [1, 3, 2, 12, 14, 6, 12, 8, 5, 3, 8, 10, 12, 2];
-
 fn main() -> ExitCode {
     let arguments: Vec<String> = std::env::args().skip(1).collect();
     if arguments == ["--help"] {
@@ -65,58 +64,6 @@ fn write_run(seed: u64, lines: usize) -> io::Result<()> {
     run.sessions_until(lines, &mut output)?;
     run.last_line();
     run.hand_over(&mut output)
-}
-
-/// What a step frame holds besides its kind.
-struct Fields {
-    a: u8,
-    b: u8,
-    set_or_count: u8,
-    key: u8,
-    numbers: Numbers,
-}
-
-/// The fields of a step; those it doesn't use are zero.
-fn fields_of(step: &Step) -> Fields {
-    const NUMBERS: Numbers = Numbers::NONE;
-    const UNUSED: Fields = Fields { a: 0, b: 0, set_or_count: 0, key: 0, numbers: NUMBERS };
-    match *step {
-        Step::Start { servers: a }
-        | Step::StepDown { a }
-        | Step::Advances { a }
-        | Step::WallClock { a }
-        | Step::Restarts { a } => Fields { a, ..UNUSED },
-        Step::Elect { a, set } => Fields { a, set_or_count: set, ..UNUSED },
-        Step::Hears { a, b } | Step::Pulls { a, b } | Step::RollsBack { a, b } => {
-            Fields { a, b, ..UNUSED }
-        }
-        Step::Writes { a, key, value } => {
-            Fields { a, key, numbers: Numbers { number: value, ..NUMBERS }, ..UNUSED }
-        }
-        Step::LocalRead { a, key, time } | Step::MajorityRead { a, key, time } => {
-            Fields { a, key, numbers: Numbers { time, ..NUMBERS }, ..UNUSED }
-        }
-        Step::Acknowledged { a, count, position, term } => {
-            let numbers = Numbers { number: position, term, ..NUMBERS };
-            Fields { a, set_or_count: count, numbers, ..UNUSED }
-        }
-        Step::ClocksAgree => UNUSED,
-    }
-}
-
-/// The frame of a step, the only one it has.
-fn frame_of(step: &Step) -> [u8; FRAME] {
-    let fields = fields_of(step);
-    let mut frame = [0; FRAME];
-    frame[..5].copy_from_slice(&[step.kind(), fields.a, fields.b, fields.set_or_count, fields.key]);
-    put_numbers(&mut frame[5..], &fields.numbers);
-    frame
-}
-
-fn line_of(step: &Step) -> [u8; LINE] {
-    let mut line = [0; LINE];
-    write_bytes(&mut line, &frame_of(step));
-    line
 }
 
 /// Something that rises step by step up to a limit.
@@ -199,176 +146,6 @@ impl Run {
             Ok(read) => self.say(read),
             Err(_) => self.write_line(&line),
         }
-    }
-}
-
-/// Drawing the numbers of a step: mostly usual ones, now and then odd ones.
-impl Run {
-    fn mostly<T: Copy>(&mut self, usual: T, odd: &[T]) -> T {
-        if self.prng.one_in(25) { self.prng.pick(odd) } else { usual }
-    }
-
-    /// The server count, or 2 before the first start, where any number will do.
-    fn count(&self) -> usize {
-        self.cluster.count.max(2)
-    }
-
-    fn everyone(&self) -> u8 {
-        (1 << self.cluster.count) - 1
-    }
-
-    /// The server at a number that may be out of range.
-    fn at(&self, a: u8) -> &Server {
-        &self.cluster.servers[usize::from(a) % SERVERS]
-    }
-
-    fn server(&mut self) -> u8 {
-        let count = self.count();
-        let usual = self.prng.below(count) as u8;
-        self.mostly(usual, &[count as u8, count as u8 + 1, 7, 8, 128, 255])
-    }
-
-    fn other_than(&mut self, a: u8) -> u8 {
-        let count = self.count();
-        let usual = (usize::from(a) + 1 + self.prng.below(count - 1)) % count;
-        self.mostly(usual as u8, &[a, a, count as u8, 7, 8, 255])
-    }
-
-    fn has_primary(&self) -> bool {
-        self.cluster.counted().iter().any(|server| server.role == Role::Primary)
-    }
-
-    /// Mostly a primary; any server where there is none.
-    fn primary(&mut self) -> u8 {
-        let (any, count) = (self.server(), self.count() as u8);
-        let primary = self.with_most(self.everyone(), |server| server.role == Role::Primary);
-        self.mostly(primary, &[any, any, count, 255])
-    }
-
-    /// Whom a should hear, pull from or roll back to: another primary, or just another.
-    fn source_for(&mut self, a: u8) -> u8 {
-        let primary = self.primary();
-        if primary != a && self.prng.one_in(2) { primary } else { self.other_than(a) }
-    }
-
-    /// The server among these with most of something; of equals, any.
-    fn with_most<K: Ord>(&mut self, among: u8, what: fn(&Server) -> K) -> u8 {
-        let count = self.count();
-        let first = self.prng.below(count);
-        let turned = (0..count).map(|i| ((first + i) % count) as u8);
-        let members = turned.filter(|a| among >> a & 1 == 1);
-        members.max_by_key(|&a| what(self.at(a))).unwrap_or(0)
-    }
-
-    /// Some majority that holds a, of those who would vote for it, if they are one.
-    fn voters(&mut self, a: u8, among: u8) -> u8 {
-        let candidate = *self.at(a);
-        let mut set = 0;
-        for (i, member) in self.cluster.counted().iter().enumerate() {
-            let votes = member.term <= candidate.term && !candidate.log.is_behind(&member.log);
-            set |= u8::from(votes) << i & among;
-        }
-        for i in 0..self.count() as u8 {
-            let fewer = set & !(1 << i);
-            let enough = self.cluster.is_majority(fewer.count_ones() as usize);
-            if i != a && enough && self.prng.one_in(2) {
-                set = fewer;
-            }
-        }
-        set
-    }
-
-    fn set(&mut self, a: u8) -> u8 {
-        let any = self.prng.below(256) as u8;
-        let everyone = self.everyone();
-        match self.prng.below(15) {
-            0 => any,
-            1 => any & everyone,
-            2 => everyone,
-            3 => everyone & !1u8.checked_shl(a.into()).unwrap_or(0),
-            _ => self.voters(a, everyone),
-        }
-    }
-
-    fn key(&mut self) -> u8 {
-        let usual = self.prng.below(4) as u8;
-        self.mostly(usual, &[4, 9, 14, 15, 15, 16, 17, 255])
-    }
-
-    fn value(&mut self) -> u16 {
-        let usual = 1 + self.prng.below(65_535) as u16;
-        self.mostly(usual, &[0, 0, 1, 255, 256, 65_535])
-    }
-
-    /// A time at or beside a boundary.
-    fn time_around(&mut self, time: Time) -> Time {
-        let Time { p, l } = time;
-        match self.prng.below(16) {
-            0 => Time { p, l: l.saturating_add(1) },
-            1 => Time { p, l: l.saturating_sub(1) },
-            2 => Time { p: p.saturating_add(1), l: 0 },
-            3 => Time { p: p.saturating_sub(1), l: 65_535 },
-            4 => Time::ZERO,
-            5 => Time { p: self.prng.below(65_536) as u16, l: self.prng.below(65_536) as u16 },
-            _ => time,
-        }
-    }
-
-    fn acknowledged(&mut self, a: u8) -> Step {
-        let length = self.at(a).log.length;
-        let usual = 1 + self.prng.below(length.max(1)) as u16;
-        let position = self.mostly(usual, &[0, length as u16 + 1, 32, 33, 256 + usual, 65_535]);
-        let term = self.at(a).log.entry(position.into()).map_or(1, |entry| entry.term);
-        let term = self.mostly(term, &[0, 0, term.wrapping_add(1), term ^ 256, 65_535]);
-        let count = self.count();
-        let usual = self.prng.below(count + 1) as u8;
-        let count = self.mostly(usual, &[count as u8 + 1, 8, 255]);
-        Step::Acknowledged { a, count, position, term }
-    }
-
-    fn write_by(&mut self, a: u8) -> Step {
-        Step::Writes { a, key: self.key(), value: self.value() }
-    }
-
-    /// A step of a kind. A start comes out refused: a session's own begins it.
-    fn draw(&mut self, kind: usize) -> Step {
-        let a = self.server();
-        match kind {
-            0 => Step::Start { servers: self.prng.pick(&[0, 1, 8, 9, 128, 255]) },
-            1 => Step::Elect { a, set: self.set(a) },
-            2 => Step::StepDown { a: self.primary() },
-            3 => Step::Hears { a, b: self.source_for(a) },
-            4 => Step::Pulls { a, b: self.source_for(a) },
-            5 => Step::RollsBack { a, b: self.source_for(a) },
-            6 => {
-                let a = self.primary();
-                self.write_by(a)
-            }
-            7 => Step::Advances { a: self.primary() },
-            8 => Step::WallClock { a },
-            9 => Step::Restarts { a },
-            10 => {
-                let time = self.time_around(self.at(a).applied_time());
-                Step::LocalRead { a, key: self.key(), time }
-            }
-            11 => {
-                let time = self.time_around(self.at(a).commit_time());
-                Step::MajorityRead { a, key: self.key(), time }
-            }
-            12 => self.acknowledged(a),
-            _ => Step::ClocksAgree,
-        }
-    }
-
-    /// A kind, as often as its weight says.
-    fn kind(&mut self) -> usize {
-        let mut left = self.prng.below(WEIGHTS.iter().sum());
-        let mut kind = 0;
-        while left >= WEIGHTS[kind] {
-            left -= WEIGHTS[kind];
-            kind += 1;
-        }
-        kind
     }
 }
 

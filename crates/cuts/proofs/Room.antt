@@ -10,7 +10,7 @@ use lib.ListN.{length}
 use Rattle.replay.specs.declared.Session.{Session}
 use Rattle.replay.specs.declared.Finished.{Finished}
 use Rattle.replay.specs.Pieces.{answerLine, isEmpty, finishOf}
-use Rattle.shell.proofs.Parts.{rest, length-rest}
+use Rattle.replay.proofs.Parts.{rest, length-rest}
 
 -- nothing, or an answer line where there is room for one
 fits : (s : Session) (room : ℕ) → finishOf s room .wrote ≤ room

@@ -1,5 +1,6 @@
 -- Laws over what the functions promise: however a text is cut, its answers and the record are those of the whole. Assumes nothing.
 pub mod Whole
+pub mod Parts
 pub mod Along
 pub mod Planned
 pub mod Held

@@ -1,5 +1,5 @@
 -- `cuts::pour` meets its contract. Assumes nothing.
-use Rattle.shell.proofs.Parts.{taken-within}
+use Rattle.replay.proofs.Parts.{taken-within}
 use native.Mathlib.Omega.{arith}
 use lib.ListN.{length}
 use Prim.Native.Nat.{_≤_, _+_, _-_}

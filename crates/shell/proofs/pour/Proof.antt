@@ -4,7 +4,7 @@ use native.Mathlib.Omega.{arith}
 use Prim.Native.Nat.{_≤_, _+_, _-_}
 use mathlib.Core.Path.{_≡_}
 use borrow.Author.Needs.{needs}
-use Rattle.shell.proofs.Parts.{taken-within}
+use Rattle.replay.proofs.Parts.{taken-within}
 use Rattle.shell.proofs.pour.Statement.{statement}
 use Rattle.shell.proofs.pour.Tie as tie
 

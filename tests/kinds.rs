@@ -1,0 +1,181 @@
+//! The step over the record, and one function a kind: its tests in order, then what holds afterwards.
+
+use super::Condition::*;
+use super::Role::*;
+use super::{Answer, Cluster, ENTRIES, Entry, KEY_MAX, Numbers, SERVERS, Step, Time, refuse_if};
+
+/// Takes one step in place; a refused one leaves the record as it was.
+pub fn step(cluster: &mut Cluster, step: &Step) -> Answer {
+    let looks_at_record = !matches!(step, Step::Start { .. });
+    refuse_if(looks_at_record && !cluster.well_formed(), NotWellFormed)?;
+    match *step {
+        Step::Start { servers } => cluster.start(servers.into()),
+        Step::Elect { a, set } => cluster.elect(a.into(), set),
+        Step::StepDown { a } => cluster.step_down(a.into()),
+        Step::Hears { a, b } => cluster.hears(a.into(), b.into()),
+        Step::Pulls { a, b } => cluster.pulls(a.into(), b.into()),
+        Step::RollsBack { a, b } => cluster.rolls_back(a.into(), b.into()),
+        Step::Writes { a, key, value } => cluster.writes(a.into(), key, value),
+        Step::Advances { a } => cluster.advances(a.into()),
+        Step::WallClock { a } => cluster.wall_clock(a.into()),
+        Step::Restarts { a } => cluster.restarts(a.into()),
+        Step::LocalRead { a, key, time } => cluster.local_read(a.into(), key, time),
+        Step::MajorityRead { a, key, time } => cluster.majority_read(a.into(), key, time),
+        Step::Acknowledged { a, count, position, term } => {
+            cluster.acknowledged(a.into(), count.into(), position.into(), term)
+        }
+        Step::ClocksAgree => cluster.clocks_agree(),
+    }
+}
+
+impl Cluster {
+    fn start(&mut self, servers: usize) -> Answer {
+        refuse_if(servers < 2, StartBelow2)?;
+        refuse_if(servers > SERVERS, StartAbove7)?;
+        *self = Cluster::fresh(servers);
+        Ok(Numbers::NONE)
+    }
+
+    fn elect(&mut self, a: usize, set: u8) -> Answer {
+        let is_member = |i: usize| set >> i & 1 == 1;
+        refuse_if(a >= self.count, ServerOutside)?;
+        refuse_if(set >> self.count != 0, MemberOutside)?;
+        refuse_if(!self.is_majority(set.count_ones() as usize), NotAMajority)?;
+        refuse_if(!is_member(a), OutsideItsSet)?;
+        let candidate = &self.servers[a];
+        let members = || self.counted().iter().enumerate().filter(|(i, _)| is_member(*i));
+        refuse_if(members().any(|(_, m)| m.term > candidate.term), MemberTermAbove)?;
+        refuse_if(members().any(|(_, m)| candidate.log.is_behind(&m.log)), BehindAMember)?;
+        let term = candidate.term.checked_add(1).ok_or(TermAtLimit)?;
+        for i in (0..self.count).filter(|i| is_member(*i)) {
+            self.servers[i].term = term;
+            self.servers[i].role = if i == a { Primary } else { Secondary };
+        }
+        Ok(Numbers { term, ..Numbers::NONE })
+    }
+
+    fn step_down(&mut self, a: usize) -> Answer {
+        let a = self.server(a)?;
+        refuse_if(a.role != Primary, NotPrimary)?;
+        a.role = Secondary;
+        Ok(Numbers::NONE)
+    }
+
+    fn hears(&mut self, a: usize, b: usize) -> Answer {
+        let (a, b) = self.two_servers(a, b)?;
+        a.cluster_time = a.cluster_time.max(b.cluster_time);
+        if b.term > a.term {
+            a.term = b.term;
+            a.role = Secondary;
+        }
+        // Above a's commit point b's is at least 1, so b has an entry there and a must hold it.
+        let n = b.commit_point;
+        if n > a.commit_point && a.log.entry(n) == b.log.entry(n) {
+            a.commit_point = n;
+        }
+        Ok(Numbers::NONE)
+    }
+
+    fn pulls(&mut self, a: usize, b: usize) -> Answer {
+        let (a, b) = self.two_servers(a, b)?;
+        refuse_if(a.role != Secondary, NotSecondary)?;
+        refuse_if(a.log.length >= b.log.length, NotShorter)?;
+        // At position 0 neither has an entry, so an empty log passes.
+        let n = a.log.length;
+        refuse_if(a.log.entry(n) != b.log.entry(n), LastEntryDiffers)?;
+        a.log.append_rest_of(&b.log);
+        a.take_greater(b);
+        Ok(Numbers::place(a.log.length))
+    }
+
+    fn rolls_back(&mut self, a: usize, b: usize) -> Answer {
+        let (a, b) = self.two_servers(a, b)?;
+        refuse_if(a.role != Secondary, NotSecondary)?;
+        refuse_if(a.log.length == 0, LogEmpty)?;
+        refuse_if(a.log.last_term() >= b.log.last_term(), LastTermNotBelow)?;
+        let common = a.log.common_with(&b.log);
+        refuse_if(common == a.log.length, ABeginning)?;
+        refuse_if(common < a.commit_point, CommonBelowCommitPoint)?;
+        // A common beginning and then the rest of b's log is b's log.
+        a.log = b.log;
+        a.take_greater(b);
+        Ok(Numbers::place(a.log.length))
+    }
+
+    fn writes(&mut self, a: usize, key: u8, value: u16) -> Answer {
+        let a = self.server(a)?;
+        refuse_if(key > KEY_MAX, KeyAbove15)?;
+        refuse_if(value == 0, ValueZero)?;
+        refuse_if(a.role != Primary, NotPrimary)?;
+        refuse_if(a.log.length == ENTRIES, LogFull)?;
+        let time = a.cluster_time.tick(a.wall_clock).ok_or(TickAtLimit)?;
+        let entry = Entry { term: a.term, key, value, time };
+        a.cluster_time = time;
+        a.log.push(entry);
+        Ok(Numbers::entry_at(a.log.length, &entry))
+    }
+
+    fn advances(&mut self, a: usize) -> Answer {
+        refuse_if(a >= self.count, ServerOutside)?;
+        let server = &self.servers[a];
+        refuse_if(server.role != Primary, NotPrimary)?;
+        let mut above = (server.commit_point + 1..=server.log.length).rev();
+        let highest = above.find(|&position| self.passes(server, position));
+        let commit_point = highest.ok_or(NothingPasses)?;
+        self.servers[a].commit_point = commit_point;
+        Ok(Numbers::place(commit_point))
+    }
+
+    fn wall_clock(&mut self, a: usize) -> Answer {
+        let a = self.server(a)?;
+        a.wall_clock = a.wall_clock.checked_add(1).ok_or(WallClockAtLimit)?;
+        Ok(Numbers::NONE)
+    }
+
+    fn restarts(&mut self, a: usize) -> Answer {
+        let a = self.server(a)?;
+        a.role = Secondary;
+        a.commit_point = 0;
+        a.cluster_time = a.applied_time();
+        Ok(Numbers::NONE)
+    }
+
+    fn local_read(&mut self, a: usize, key: u8, asked: Time) -> Answer {
+        let a = self.server(a)?;
+        refuse_if(key > KEY_MAX, KeyAbove15)?;
+        let time = a.applied_time();
+        refuse_if(time < asked, AppliedTimeBefore)?;
+        Ok(Numbers { number: a.log.value_of(key, a.log.length), time, ..Numbers::NONE })
+    }
+
+    fn majority_read(&mut self, a: usize, key: u8, asked: Time) -> Answer {
+        let a = self.server(a)?;
+        refuse_if(key > KEY_MAX, KeyAbove15)?;
+        let time = a.commit_time();
+        refuse_if(time < asked, CommitTimeBefore)?;
+        Ok(Numbers { number: a.log.value_of(key, a.commit_point), time, ..Numbers::NONE })
+    }
+
+    /// Refusal 10 comes before 8: only an entry of that term can be waited for.
+    fn acknowledged(&mut self, a: usize, count: usize, position: usize, term: u16) -> Answer {
+        refuse_if(a >= self.count, ServerOutside)?;
+        refuse_if(count > self.count, CountAbove)?;
+        refuse_if(position == 0, PositionZero)?;
+        refuse_if(position > ENTRIES, PositionAbove32)?;
+        refuse_if(term == 0, TermZero)?;
+        let server = &self.servers[a];
+        let entry = server.log.entry(position).ok_or(NoEntry)?;
+        refuse_if(entry.term != term, OtherTerm)?;
+        refuse_if(count == 0 && server.commit_point < position, CommitPointBelow)?;
+        refuse_if(self.holders(position, entry) < count, FewerThanCount)?;
+        Ok(Numbers::entry_at(position, entry))
+    }
+
+    fn clocks_agree(&mut self) -> Answer {
+        let greatest = self.counted().iter().fold(0, |clock, server| clock.max(server.wall_clock));
+        for server in &mut self.servers[..self.count] {
+            server.wall_clock = greatest;
+        }
+        Ok(Numbers::NONE)
+    }
+}
