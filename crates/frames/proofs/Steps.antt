@@ -17,7 +17,7 @@ use Rattle.hex.proofs.Trips.{Bytes, bytes-below}
 use Rattle.frames.specs.declared.Frame.{Frame}
 use Rattle.frames.specs.declared.ReadStep.the-variants as R
 use Rattle.words.specs.Words.{highOf, lowOf, byteAt}
-use Rattle.frames.specs.Layout.{stepBytes, kinds, kindAt, isClean}
+use Rattle.frames.specs.Layout.{stepBytes, kinds, at, isClean}
 use Rattle.frames.specs.Steps.{fields, frameFor, bytesOfFrame, frameOf, stepOf, stepIn, readStep, writeStep}
 use Rattle.base.proofs.Cases.{_▸_, case-at}
 use Rattle.words.proofs.Framed.{framed-hex, is-frame}
@@ -88,7 +88,7 @@ unfolding Read stepIn MakesAt Makes frameOf
 read-from bs s h n = go (isClean kind bs) refl
   where
     kind : ℕ
-    kind = byteAt bs kindAt
+    kind = byteAt bs (at .kind)
 
     made : isClean kind bs ≡ true → stepOf (frameOf bs) ≡ R.Step s → kind < kinds → Read bs s
     made c e l =

@@ -8,7 +8,7 @@ use Rattle.frames.specs.declared.Frame.{Frame}
 use Rattle.frames.specs.declared.ReadStep.{ReadStep}
 use Rattle.frames.specs.declared.ReadStep.the-variants.{NoFrame}
 use Rattle.words.specs.Words.{byteAt}
-use Rattle.frames.specs.Layout.{kinds, kindAt, isClean}
+use Rattle.frames.specs.Layout.{kinds, at, isClean}
 use Rattle.frames.specs.Steps.{frameOf, stepsOf, stepOf, stepIn}
 
 pub unknown-kind : (f : Frame) → kinds ≤ f .kind → stepOf f ≡ NoFrame
@@ -19,6 +19,6 @@ both-none : (b : Bool) (x : ReadStep) → x ≡ NoFrame → cond b x NoFrame ≡
 both-none true x e = e
 both-none false x e = refl
 
-pub unknown-in : (bs : List ℕ) → kinds ≤ byteAt bs kindAt → stepIn bs ≡ NoFrame
+pub unknown-in : (bs : List ℕ) → kinds ≤ byteAt bs (at .kind) → stepIn bs ≡ NoFrame
 unfolding stepIn frameOf
-unknown-in bs h = both-none (isClean (byteAt bs kindAt) bs) _ (unknown-kind (frameOf bs) h)
+unknown-in bs h = both-none (isClean (byteAt bs (at .kind)) bs) _ (unknown-kind (frameOf bs) h)

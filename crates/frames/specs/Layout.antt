@@ -5,6 +5,7 @@ use Prim.Native.Nat.{ℕ, _/_, _%_, _^_}
 use lib.Dec.{eqb}
 use lib.ListN.{getD}
 use Rattle.base.specs.Numbers.{every}
+use Rattle.frames.specs.declared.Frame.{Frame}
 use Rattle.words.specs.Words.{byteAt}
 
 abbrev pub stepBytes : ℕ
@@ -13,54 +14,32 @@ stepBytes = 13
 abbrev pub kinds : ℕ
 kinds = 14
 
--- where each field begins: kind, a, b, set or count, key, number (2), term (2), p (2), l (2)
-abbrev pub kindAt : ℕ
-kindAt = 0
-
-abbrev pub aAt : ℕ
-aAt = 1
-
-abbrev pub bAt : ℕ
-bAt = 2
-
-abbrev pub setAt : ℕ
-setAt = 3
-
-abbrev pub keyAt : ℕ
-keyAt = 4
-
-abbrev pub numberAt : ℕ
-numberAt = 5
-
-abbrev pub termAt : ℕ
-termAt = 7
-
-abbrev pub pAt : ℕ
-pAt = 9
-
-abbrev pub lAt : ℕ
-lAt = 11
+-- the byte at which each field begins: kind, a, b, set or count, key, number (2), term (2), p (2), l (2)
+abbrev pub at : Frame
+at = record { kind = 0; a = 1; b = 2; set = 3; key = 4; number = 5; term = 7; time = record { p = 9; l = 11 } }
 
 -- the field that each byte belongs to
 abbrev pub layout : List ℕ
-layout = kindAt ∷ aAt ∷ bAt ∷ setAt ∷ keyAt ∷ numberAt ∷ numberAt ∷ termAt ∷ termAt ∷ pAt ∷ pAt ∷ lAt ∷ lAt ∷ []
+layout =
+    at .kind ∷ at .a ∷ at .b ∷ at .set ∷ at .key ∷ at .number ∷ at .number ∷ at .term ∷ at .term
+    ∷ at .time .p ∷ at .time .p ∷ at .time .l ∷ at .time .l ∷ []
 
 -- the fields that each kind uses, from kind 0 to 13
 abbrev pub usedFields : List (List ℕ)
 usedFields =
-    (aAt ∷ [])
-    ∷ (aAt ∷ setAt ∷ [])
-    ∷ (aAt ∷ [])
-    ∷ (aAt ∷ bAt ∷ [])
-    ∷ (aAt ∷ bAt ∷ [])
-    ∷ (aAt ∷ bAt ∷ [])
-    ∷ (aAt ∷ keyAt ∷ numberAt ∷ [])
-    ∷ (aAt ∷ [])
-    ∷ (aAt ∷ [])
-    ∷ (aAt ∷ [])
-    ∷ (aAt ∷ keyAt ∷ pAt ∷ lAt ∷ [])
-    ∷ (aAt ∷ keyAt ∷ pAt ∷ lAt ∷ [])
-    ∷ (aAt ∷ setAt ∷ numberAt ∷ termAt ∷ [])
+    (at .a ∷ [])
+    ∷ (at .a ∷ at .set ∷ [])
+    ∷ (at .a ∷ [])
+    ∷ (at .a ∷ at .b ∷ [])
+    ∷ (at .a ∷ at .b ∷ [])
+    ∷ (at .a ∷ at .b ∷ [])
+    ∷ (at .a ∷ at .key ∷ at .number ∷ [])
+    ∷ (at .a ∷ [])
+    ∷ (at .a ∷ [])
+    ∷ (at .a ∷ [])
+    ∷ (at .a ∷ at .key ∷ at .time .p ∷ at .time .l ∷ [])
+    ∷ (at .a ∷ at .key ∷ at .time .p ∷ at .time .l ∷ [])
+    ∷ (at .a ∷ at .set ∷ at .number ∷ at .term ∷ [])
     ∷ []
     ∷ []
 
@@ -70,7 +49,7 @@ isIn x (y ∷ ys) = eqb x y || isIn x ys
 
 -- a byte must be zero where it is neither the kind nor of a field that the kind uses
 abbrev pub mustBeZero : ℕ → ℕ → Bool
-mustBeZero kind i = not (isIn (getD layout i 0) (kindAt ∷ getD usedFields kind []))
+mustBeZero kind i = not (isIn (getD layout i 0) (at .kind ∷ getD usedFields kind []))
 
 -- the rule of a table of masks: bit i of a kind's mask is 1 where byte i must be zero
 unfoldable pub isTable : List ℕ → Bool

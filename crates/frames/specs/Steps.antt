@@ -12,7 +12,7 @@ use Rattle.frames.specs.declared.Frame.{Frame}
 use Rattle.frames.specs.declared.ReadStep.{ReadStep}
 use Rattle.frames.specs.declared.ReadStep.the-variants as R
 use Rattle.words.specs.Words.{highOf, lowOf, byteAt, wordAt, framed}
-use Rattle.frames.specs.Layout.{stepBytes, kindAt, aAt, bAt, setAt, keyAt, numberAt, termAt, pAt, lAt, isClean}
+use Rattle.frames.specs.Layout.{stepBytes, at, isClean}
 
 abbrev pub fields : ℕ → ℕ → ℕ → ℕ → ℕ → ℕ → ℕ → Time → Frame
 fields kind a b set key number term time = record { kind = kind; a = a; b = b; set = set; key = key; number = number; term = term; time = time }
@@ -46,8 +46,8 @@ writeStep s = hexOf (bytesOfFrame (frameFor s))
 -- the fields at their places
 unfoldable pub frameOf : List ℕ → Frame
 frameOf bs =
-    fields (byteAt bs kindAt) (byteAt bs aAt) (byteAt bs bAt) (byteAt bs setAt) (byteAt bs keyAt) (wordAt bs numberAt) (wordAt bs termAt)
-    (record { p = wordAt bs pAt; l = wordAt bs lAt })
+    fields (byteAt bs (at .kind)) (byteAt bs (at .a)) (byteAt bs (at .b)) (byteAt bs (at .set)) (byteAt bs (at .key)) (wordAt bs (at .number)) (wordAt bs (at .term))
+    (record { p = wordAt bs (at .time .p); l = wordAt bs (at .time .l) })
 
 -- the step that each kind makes of the fields that it uses, from kind 0 to 13
 abbrev pub stepsOf : Frame → List ReadStep
@@ -74,7 +74,7 @@ stepOf f = getD (stepsOf f) (f .kind) R.NoFrame
 
 -- an unused byte that is not zero is no frame
 unfoldable pub stepIn : List ℕ → ReadStep
-stepIn bs = cond (isClean (byteAt bs kindAt) bs) (stepOf (frameOf bs)) R.NoFrame
+stepIn bs = cond (isClean (byteAt bs (at .kind)) bs) (stepOf (frameOf bs)) R.NoFrame
 
 -- any line: what isn't a frame of a step is no frame
 abbrev pub readStep : List ℕ → ReadStep

@@ -110,56 +110,31 @@ abbrev pub all : (Row → Bool) → List Row → Bool
 all p [] = true
 all p (r ∷ rs) = p r && all p rs
 
--- (1) set {0,1} of 3 is a majority
-abbrev pub twoOfThree : Row
-twoOfThree = majority 3 3 true
-
--- (2) of 4 it is not
-abbrev pub twoOfFour : Row
-twoOfFour = majority 3 4 false
-
--- (3) {0} of 2 is not
-abbrev pub oneOfTwo : Row
-oneOfTwo = majority 1 2 false
-
--- (4) (1,9) is before (2,0)
-abbrev pub orderedByP : Row
-orderedByP = before (1, 9) (2, 0) true
-
--- (5) tick (0,0) at clock 1 gives (1,0)
-abbrev pub firstTick : Row
-firstTick = tick (0, 0) 1 (1, 0)
-
--- (6) tick (3,4) at clock 2 gives (3,5)
-abbrev pub tickAheadOfTheClock : Row
-tickAheadOfTheClock = tick (3, 4) 2 (3, 5)
-
--- (7) tick (1,65535) at clock 2 gives (2,0)
-abbrev pub tickToTheClock : Row
-tickToTheClock = tick (1, 65535) 2 (2, 0)
-
--- (8) tick (2,65535) at clock 2 is refusal 7
-abbrev pub tickAtTheLimit : Row
-tickAtTheLimit = write (2, 65535) 2 7
-
--- (9) [1,1,2] and [1,1,3,3] share 2
-abbrev pub sharedBeginning : Row
-sharedBeginning = share (1 ∷ 1 ∷ 2 ∷ []) (1 ∷ 1 ∷ 3 ∷ 3 ∷ []) 2
-
--- (10) [1] pulls from [1,2], and [2] can't pull from [1,3]
-abbrev pub pulls : Row
-pulls = both (pull (1 ∷ []) (1 ∷ 2 ∷ []) 0) (pull (2 ∷ []) (1 ∷ 3 ∷ []) 5)
-
--- (11) [1,2] rolls back to [1,3], and [1] doesn't
-abbrev pub rollsBack : Row
-rollsBack = both (rollBack (1 ∷ 2 ∷ []) (1 ∷ 3 ∷ []) 0) (rollBack (1 ∷ []) (1 ∷ 3 ∷ []) 5)
-
--- (12) a primary of term 4 with [1,2,4] in a cluster of 5, where two others of term 4 hold [1,2] and nobody else holds position 3:
--- nothing passes
-abbrev pub nothingPasses : Row
-nothingPasses = passing (4, 1 ∷ 2 ∷ 4 ∷ []) ((4, 1 ∷ 2 ∷ []) ∷ (4, 1 ∷ 2 ∷ []) ∷ (3, 1 ∷ []) ∷ (3, []) ∷ []) 0
-
 abbrev pub table : List Row
 table =
-    twoOfThree ∷ twoOfFour ∷ oneOfTwo ∷ orderedByP ∷ firstTick ∷ tickAheadOfTheClock ∷ tickToTheClock ∷ tickAtTheLimit
-    ∷ sharedBeginning ∷ pulls ∷ rollsBack ∷ nothingPasses ∷ []
+    -- (1) set {0,1} of 3 is a majority
+    majority 3 3 true
+    -- (2) of 4 it is not
+    ∷ majority 3 4 false
+    -- (3) {0} of 2 is not
+    ∷ majority 1 2 false
+    -- (4) (1,9) is before (2,0)
+    ∷ before (1, 9) (2, 0) true
+    -- (5) tick (0,0) at clock 1 gives (1,0)
+    ∷ tick (0, 0) 1 (1, 0)
+    -- (6) tick (3,4) at clock 2 gives (3,5)
+    ∷ tick (3, 4) 2 (3, 5)
+    -- (7) tick (1,65535) at clock 2 gives (2,0)
+    ∷ tick (1, 65535) 2 (2, 0)
+    -- (8) tick (2,65535) at clock 2 is refusal 7
+    ∷ write (2, 65535) 2 7
+    -- (9) [1,1,2] and [1,1,3,3] share 2
+    ∷ share (1 ∷ 1 ∷ 2 ∷ []) (1 ∷ 1 ∷ 3 ∷ 3 ∷ []) 2
+    -- (10) [1] pulls from [1,2], and [2] can't pull from [1,3]
+    ∷ both (pull (1 ∷ []) (1 ∷ 2 ∷ []) 0) (pull (2 ∷ []) (1 ∷ 3 ∷ []) 5)
+    -- (11) [1,2] rolls back to [1,3], and [1] doesn't
+    ∷ both (rollBack (1 ∷ 2 ∷ []) (1 ∷ 3 ∷ []) 0) (rollBack (1 ∷ []) (1 ∷ 3 ∷ []) 5)
+    -- (12) a primary of term 4 with [1,2,4] in a cluster of 5, where two others of term 4 hold [1,2] and nobody else holds
+    -- position 3: nothing passes
+    ∷ passing (4, 1 ∷ 2 ∷ 4 ∷ []) ((4, 1 ∷ 2 ∷ []) ∷ (4, 1 ∷ 2 ∷ []) ∷ (3, 1 ∷ []) ∷ (3, []) ∷ []) 0
+    ∷ []

@@ -1,7 +1,7 @@
 -- `frames::frame_of` meets its contract. Assumes nothing.
 use Rattle.frames.specs.declared.Frame.{Frame}
 use Rattle.words.specs.Words.{byteAt, wordAt}
-use Rattle.frames.specs.Layout.{kindAt, aAt, bAt, setAt, keyAt, numberAt, termAt, pAt, lAt}
+use Rattle.frames.specs.Layout.{at}
 use Rattle.frames.specs.Steps.{fields, frameOf}
 use mathlib.Core.List.{List}
 use mathlib.Core.Path.{_≡_}
@@ -11,8 +11,8 @@ use Rattle.frames.proofs.frame_of.Statement.{statement}
 use Rattle.frames.proofs.frame_of.Tie as tie
 
 made : (bs : List ℕ) (f : Frame) (number term p l : ℕ)
-    → f ≡ fields (byteAt bs kindAt) (byteAt bs aAt) (byteAt bs bAt) (byteAt bs setAt) (byteAt bs keyAt) number term (record { p = p; l = l })
-    → number ≡ wordAt bs numberAt → term ≡ wordAt bs termAt → p ≡ wordAt bs pAt → l ≡ wordAt bs lAt → f ≡ frameOf bs
+    → f ≡ fields (byteAt bs (at .kind)) (byteAt bs (at .a)) (byteAt bs (at .b)) (byteAt bs (at .set)) (byteAt bs (at .key)) number term (record { p = p; l = l })
+    → number ≡ wordAt bs (at .number) → term ≡ wordAt bs (at .term) → p ≡ wordAt bs (at .time .p) → l ≡ wordAt bs (at .time .l) → f ≡ frameOf bs
 unfolding frameOf
 made bs f number term p l d e g h i = cc
 
