@@ -1,8 +1,8 @@
--- `cases::compare::changes` is safe and ends. Assumes nothing.
+-- `trials::compare::changes` is safe and ends. Assumes nothing.
 use Prim.Native.Nat.{_≤_, _-_}
 use borrow.Author.Needs.{needs}
-use Rattle.cases.proofs.compare.changes.Statement.{statement}
-use Rattle.cases.proofs.compare.changes.Tie as tie
+use Rattle.trials.proofs.compare.changes.Statement.{statement}
+use Rattle.trials.proofs.compare.changes.Tie as tie
 
 abbrev Inv-loop : tie.InvT-loop
 Inv-loop c d same₀ i₀ same i = i ≤ 7

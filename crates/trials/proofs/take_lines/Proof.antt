@@ -1,10 +1,10 @@
--- `cases::take_lines` is safe and ends. Assumes nothing.
+-- `trials::take_lines` is safe and ends. Assumes nothing.
 use lib.ListN.{length}
 use Prim.Native.Nat.{_≤_, _-_}
 use mathlib.Core.Logic.{⊎-elim}
 use borrow.Author.Needs.{needs}
-use Rattle.cases.proofs.take_lines.Statement.{statement}
-use Rattle.cases.proofs.take_lines.Tie as tie
+use Rattle.trials.proofs.take_lines.Statement.{statement}
+use Rattle.trials.proofs.take_lines.Tie as tie
 
 abbrev Inv-loop : tie.InvT-loop
 Inv-loop text c₀ start₀ i₀ c start i = (start ≤ i) × (i ≤ length text)

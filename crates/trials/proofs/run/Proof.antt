@@ -1,11 +1,11 @@
--- `cases::main` is safe and ends. Assumes nothing.
+-- `trials::run` is safe and ends. Assumes nothing.
 use lib.ListN.{length-set}
 use lib.Seq.{length-take-le}
 use mathlib.Core.Path.{sym}
 use native.Mathlib.Omega.{arith}
 use borrow.Author.Needs.{needs}
-use Rattle.cases.proofs.main.Statement.{statement}
-use Rattle.cases.proofs.main.Tie as tie
+use Rattle.trials.proofs.run.Statement.{statement}
+use Rattle.trials.proofs.run.Tie as tie
 
 large-buffer-requires : tie.Need-large-buffer-requires
 large-buffer-requires c κs = search needs
@@ -43,8 +43,8 @@ take-lines-requires c κs = search needs
 returns-2 : tie.Need-returns-2
 returns-2 c = search needs
 
-pub main-spec : {M : Type 1} → statement M
-main-spec =
+pub run-spec : {M : Type 1} → statement M
+run-spec =
     tie.close
     (tie.spec
     large-buffer-requires

@@ -1,10 +1,10 @@
--- `cases::numbers::read` is safe and ends. Assumes nothing.
+-- `trials::numbers::read` is safe and ends. Assumes nothing.
 use mathlib.Core.Path.{_≡_}
 use lib.ListN.{length}
 use Prim.Native.Nat.{_≤_, _-_}
 use borrow.Author.Needs.{needs}
-use Rattle.cases.proofs.numbers.read.Statement.{statement}
-use Rattle.cases.proofs.numbers.read.Tie as tie
+use Rattle.trials.proofs.numbers.read.Statement.{statement}
+use Rattle.trials.proofs.numbers.read.Tie as tie
 
 abbrev Inv-loop : tie.InvT-loop
 Inv-loop line n₀ i₀ n i = (i ≤ length line) × (length n ≡ 9)

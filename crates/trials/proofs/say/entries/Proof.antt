@@ -1,8 +1,8 @@
--- `cases::say::entries` is safe and ends. Assumes nothing.
+-- `trials::say::entries` is safe and ends. Assumes nothing.
 use Prim.Native.Nat.{_≤_, _-_}
 use borrow.Author.Needs.{needs}
-use Rattle.cases.proofs.say.entries.Statement.{statement}
-use Rattle.cases.proofs.say.entries.Tie as tie
+use Rattle.trials.proofs.say.entries.Statement.{statement}
+use Rattle.trials.proofs.say.entries.Tie as tie
 
 abbrev Inv-loop : tie.InvT-loop
 Inv-loop i g k₀ k = k ≤ 32

@@ -1,8 +1,8 @@
--- `cases::say::row` is safe and ends. Assumes nothing.
+-- `trials::say::row` is safe and ends. Assumes nothing.
 use Prim.Native.Nat.{_≤_, _-_}
 use borrow.Author.Needs.{needs}
-use Rattle.cases.proofs.say.row.Statement.{statement}
-use Rattle.cases.proofs.say.row.Tie as tie
+use Rattle.trials.proofs.say.row.Statement.{statement}
+use Rattle.trials.proofs.say.row.Tie as tie
 
 abbrev Inv-loop : tie.InvT-loop
 Inv-loop word n k₀ t5 t6 k = k ≤ 9

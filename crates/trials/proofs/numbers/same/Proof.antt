@@ -1,8 +1,8 @@
--- `cases::numbers::same` is safe and ends. Assumes nothing.
+-- `trials::numbers::same` is safe and ends. Assumes nothing.
 use Prim.Native.Nat.{_≤_, _-_}
 use borrow.Author.Needs.{needs}
-use Rattle.cases.proofs.numbers.same.Statement.{statement}
-use Rattle.cases.proofs.numbers.same.Tie as tie
+use Rattle.trials.proofs.numbers.same.Statement.{statement}
+use Rattle.trials.proofs.numbers.same.Tie as tie
 
 abbrev Inv-loop : tie.InvT-loop
 Inv-loop n m k₀ k = k ≤ 9
