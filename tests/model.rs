@@ -1,6 +1,6 @@
-//! One small replica set that can be run: the cluster record, the fourteen kinds of step and what
-//! comes back. Written from document 01 and the rulings alone; `plain.rs` runs it over lines and
-//! `sessions.rs` steers by it. Record-level tests are in `model_tests.rs`.
+//! One small replica set that can be run: the cluster record, its steps and what comes back; the
+//! fourteen kinds are in `kinds.rs`. Written from document 01 and the rulings alone; `plain.rs` runs
+//! it over lines and `sessions.rs` steers by it. Record-level tests are in `model_tests.rs`.
 
 use self::Condition::*;
 use self::Role::*;
