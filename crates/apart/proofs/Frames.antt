@@ -11,7 +11,8 @@ use Rattle.hex.specs.Digits.{digitOf, charOf, byteOf}
 use Rattle.hex.specs.Lines.{allHex}
 use Rattle.answers.specs.declared.ReadAnswer.the-variants.{NoFrame}
 use Rattle.words.specs.Words.{highOf, lowOf, wordOf, framed}
-use Rattle.frames.specs.Steps.{frameFor, bytesOfFrame, writeStep}
+use Rattle.frames.specs.Layout.{bytesOfFrame}
+use Rattle.frames.specs.Steps.{writeStep}
 use Rattle.answers.specs.Answers.{answerFrame, writeAnswer, refusalOf, tellingBy, tellingIn, readAnswer}
 use Rattle.apart.proofs.Things.{at}
 
@@ -26,11 +27,11 @@ byte-of-255-values = (refl, refl, refl)
 -- the characters 0, 1, a and b are 48, 49, 97 and 98; the number stands at the characters 10 to 13
 
 pub step-with-a-byte-of-the-term : take 4 (drop 10 (writeStep (Writes 0 5 256))) ≡ 48 ∷ 49 ∷ 48 ∷ 48 ∷ []
-unfolding charOf highOf lowOf frameFor bytesOfFrame
+unfolding charOf highOf lowOf bytesOfFrame
 step-with-a-byte-of-the-term = refl
 
 pub step-in-upper-case : take 2 (writeStep (MajorityRead 0 5 (at 0 0))) ≡ 48 ∷ 98 ∷ []
-unfolding charOf highOf lowOf frameFor bytesOfFrame
+unfolding charOf highOf lowOf bytesOfFrame
 step-in-upper-case = refl
 
 pub answer-in-decimal : take 2 (writeAnswer (A.Refused NoSuchEntry)) ≡ 48 ∷ 97 ∷ []

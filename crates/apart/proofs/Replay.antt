@@ -12,7 +12,8 @@ use Rattle.steps.specs.declared.Step.the-variants.{Start, ClocksAgree}
 use Rattle.rules.specs.Rules.{stepOf}
 use Rattle.frames.specs.declared.ReadStep.the-variants as R
 use Rattle.words.specs.Words.{framed}
-use Rattle.frames.specs.Steps.{bytesOfFrame, writeStep, readStep}
+use Rattle.frames.specs.Layout.{bytesOfFrame}
+use Rattle.frames.specs.Steps.{writeStep, readStep}
 use Rattle.replay.specs.declared.Reader.{Reader}
 use Rattle.replay.specs.declared.Plan.the-variants.{Refuse, Record}
 use Rattle.replay.specs.Texts.{respond}

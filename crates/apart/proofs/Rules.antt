@@ -50,5 +50,5 @@ core-refuses-every-step = refl
 pub is-start-never : isStart (Start 2) ≡ true
 is-start-never = refl
 
-pub is-start-at-13 : isStart ClocksAgree ≡ false
-is-start-at-13 = refl
+pub is-start-always : isStart ClocksAgree ≡ false
+is-start-always = refl

@@ -13,7 +13,9 @@ use Rattle.steps.specs.Ranges.{FitsStep}
 use Rattle.wholes.specs.Starts.{startDone}
 use Rattle.rules.specs.Rules.{rowOf, isStart, stepOf}
 use Rattle.rules.proofs.Outcomes.{step-done}
-use Rattle.frames.specs.Steps.{frameFor, bytesOfFrame, writeStep}
+use Rattle.steps.specs.Fields.{frameFor}
+use Rattle.frames.specs.Layout.{bytesOfFrame}
+use Rattle.frames.specs.Steps.{writeStep}
 use Rattle.frames.proofs.Steps.{read-written-step}
 use Rattle.replay.specs.Texts.{lineFeed, lines, answerTo, recordAfter}
 use Rattle.safety.specs.Promise.{runOf, StepsFrom, momentOf, afterOf}

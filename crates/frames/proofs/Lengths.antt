@@ -6,9 +6,10 @@ use lib.ListN.{length}
 use Rattle.steps.specs.declared.Step.{Step}
 use Rattle.hex.specs.Lines.{chars}
 use Rattle.hex.proofs.Places.{hex-length}
-use Rattle.frames.specs.declared.Frame.{Frame}
-use Rattle.frames.specs.Layout.{stepBytes}
-use Rattle.frames.specs.Steps.{frameFor, bytesOfFrame, writeStep}
+use Rattle.steps.specs.declared.Frame.{Frame}
+use Rattle.steps.specs.Fields.{frameFor}
+use Rattle.frames.specs.Layout.{stepBytes, bytesOfFrame}
+use Rattle.frames.specs.Steps.{writeStep}
 
 pub frame-length : (f : Frame) → length (bytesOfFrame f) ≡ stepBytes
 unfolding bytesOfFrame

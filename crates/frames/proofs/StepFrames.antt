@@ -2,38 +2,25 @@
 use mathlib.Core.Path.{_≡_, refl, sym, _∙_}
 use mathlib.Core.Bool.{Bool, true, false, cond}
 use mathlib.Core.List.{List}
-use Prim.Native.Nat.{ℕ, _<_, _≤_}
+use Prim.Native.Nat.{ℕ}
 use borrow.Author.Tests.{eqb-true}
 use lib.Dec.{eqb}
 use lib.ListN.{length}
 use Rattle.base.proofs.Every.{every-at}
-use Rattle.clock.specs.Times.{limit}
-use Rattle.base.specs.Numbers.{byte}
 use Rattle.hex.proofs.Trips.{Bytes, byte-below}
-use Rattle.frames.specs.declared.Frame.{Frame}
+use Rattle.steps.specs.declared.Frame.{Frame}
+use Rattle.steps.specs.Ranges.{FitsFrame}
 use Rattle.words.specs.Words.{byteAt}
-use Rattle.frames.specs.Layout.{stepBytes, mustBeZero, byteOk, isClean}
-use Rattle.frames.specs.Steps.{bytesOfFrame, frameOf}
+use Rattle.frames.specs.Layout.{stepBytes, bytesOfFrame, frameOf}
+use Rattle.frames.specs.Kinds.{mustBeZero, byteOk, isClean}
 use Rattle.base.proofs.Cases.{_▸_}
 use Rattle.words.proofs.Bytes.{high-word, low-word, word-parts, high-below, low-below, word-below, listOf, listed, listed-same}
-
--- every field fits its bytes
-pub record FitsFrame (f : Frame) : Type 0 where
-  pub kind : f .kind < byte
-  pub a : f .a < byte
-  pub b : f .b < byte
-  pub set : f .set < byte
-  pub key : f .key < byte
-  pub number : f .number ≤ limit
-  pub term : f .term ≤ limit
-  pub p : f .time .p ≤ limit
-  pub l : f .time .l ≤ limit
 
 pub frame-bytes : {f : Frame} → FitsFrame f → Bytes (bytesOfFrame f)
 unfolding bytesOfFrame
 frame-bytes h =
     h .kind ▸ h .a ▸ h .b ▸ h .set ▸ h .key ▸ high-below _ (h .number) ▸ low-below _ ▸ high-below _ (h .term) ▸ low-below _
-    ▸ high-below _ (h .p) ▸ low-below _ ▸ high-below _ (h .l) ▸ low-below _ ▸ tt
+    ▸ high-below _ (h .time .p) ▸ low-below _ ▸ high-below _ (h .time .l) ▸ low-below _ ▸ tt
 
 pub bytes-fit : (bs : List ℕ) → Bytes bs → FitsFrame (frameOf bs)
 unfolding frameOf
@@ -47,8 +34,7 @@ bytes-fit bs h =
       key = b 4;
       number = word-below _ _ (b 5) (b 6);
       term = word-below _ _ (b 7) (b 8);
-      p = word-below _ _ (b 9) (b 10);
-      l = word-below _ _ (b 11) (b 12);
+      time = record { p = word-below _ _ (b 9) (b 10); l = word-below _ _ (b 11) (b 12) };
     }
 
 pub fields-of-bytes : (f : Frame) → frameOf (bytesOfFrame f) ≡ f

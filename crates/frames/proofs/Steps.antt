@@ -11,40 +11,42 @@ use Rattle.base.proofs.Facts.{lt-or-le}
 use Rattle.clock.specs.declared.Time.{Time}
 use Rattle.steps.specs.declared.Step.{Step}
 use Rattle.steps.specs.declared.Step.the-variants.{Start, Elect, StepDown, Hears, Pulls, RollsBack, Writes, Advances, WallClock, Restarts, LocalRead, MajorityRead, Acknowledged, ClocksAgree}
-use Rattle.steps.specs.Ranges.{FitsStep}
+use Rattle.steps.specs.Ranges.{FitsFrame, FitsStep}
 use Rattle.hex.specs.Lines.{bytesOf, hexOf}
 use Rattle.hex.proofs.Trips.{Bytes, bytes-below}
-use Rattle.frames.specs.declared.Frame.{Frame}
+use Rattle.steps.specs.declared.Frame.{Frame}
 use Rattle.frames.specs.declared.ReadStep.the-variants as R
 use Rattle.words.specs.Words.{highOf, lowOf, byteAt}
-use Rattle.frames.specs.Layout.{stepBytes, kinds, at, isClean}
-use Rattle.frames.specs.Steps.{fields, frameFor, bytesOfFrame, frameOf, stepOf, stepIn, readStep, writeStep}
+use Rattle.steps.specs.Fields.{fields, frameFor}
+use Rattle.frames.specs.Layout.{stepBytes, bytesOfFrame, frameOf}
+use Rattle.frames.specs.Kinds.{kinds, isClean, stepOf}
+use Rattle.frames.specs.Steps.{stepIn, readStep, writeStep}
 use Rattle.base.proofs.Cases.{_▸_, case-at}
 use Rattle.words.proofs.Framed.{framed-hex, is-frame}
 use Rattle.frames.proofs.Unknown.{unknown-kind}
 use Rattle.frames.proofs.Lengths.{frame-length}
-use Rattle.frames.proofs.StepFrames.{FitsFrame, frame-bytes, bytes-fit, fields-of-bytes, bytes-of-fields, masked, clean-masked}
+use Rattle.frames.proofs.StepFrames.{frame-bytes, bytes-fit, fields-of-bytes, bytes-of-fields, masked, clean-masked}
 
 -- the frame of a step is clean and makes that step
 Written : Step → Type 0
-Written s = (isClean (frameFor s .kind) (bytesOfFrame (frameFor s)) ≡ true) × (stepOf (frameFor s) ≡ R.Step s) × (FitsStep s → FitsFrame (frameFor s))
+Written s = (isClean (frameFor s .kind) (bytesOfFrame (frameFor s)) ≡ true) × (stepOf (frameFor s) ≡ R.Step s)
 
 written : (s : Step) → Written s
-unfolding Written isClean every frameFor bytesOfFrame highOf lowOf stepOf
-written (Start a) = (refl, refl, λ h. omega arith)
-written (Elect a set) = (refl, refl, λ h. omega arith)
-written (StepDown a) = (refl, refl, λ h. omega arith)
-written (Hears a b) = (refl, refl, λ h. omega arith)
-written (Pulls a b) = (refl, refl, λ h. omega arith)
-written (RollsBack a b) = (refl, refl, λ h. omega arith)
-written (Writes a key value) = (refl, refl, λ h. omega arith)
-written (Advances a) = (refl, refl, λ h. omega arith)
-written (WallClock a) = (refl, refl, λ h. omega arith)
-written (Restarts a) = (refl, refl, λ h. omega arith)
-written (LocalRead a key time) = (refl, refl, λ h. omega arith)
-written (MajorityRead a key time) = (refl, refl, λ h. omega arith)
-written (Acknowledged a count position term) = (refl, refl, λ h. omega arith)
-written ClocksAgree = (refl, refl, λ h. omega arith)
+unfolding Written isClean every bytesOfFrame highOf lowOf stepOf
+written (Start a) = (refl, refl)
+written (Elect a set) = (refl, refl)
+written (StepDown a) = (refl, refl)
+written (Hears a b) = (refl, refl)
+written (Pulls a b) = (refl, refl)
+written (RollsBack a b) = (refl, refl)
+written (Writes a key value) = (refl, refl)
+written (Advances a) = (refl, refl)
+written (WallClock a) = (refl, refl)
+written (Restarts a) = (refl, refl)
+written (LocalRead a key time) = (refl, refl)
+written (MajorityRead a key time) = (refl, refl)
+written (Acknowledged a count position term) = (refl, refl)
+written ClocksAgree = (refl, refl)
 
 -- what a frame of kind k makes: a step, whose frame is that frame with what the kind doesn't use put to zero
 Makes : Frame → Type 0
@@ -54,23 +56,23 @@ MakesAt : ℕ → Type 0
 MakesAt k = (a b set key number term : ℕ) (t : Time) → Makes (fields k a b set key number term t)
 
 makes : (k : ℕ) → k < kinds → MakesAt k
-unfolding MakesAt Makes frameFor bytesOfFrame highOf lowOf stepOf
+unfolding MakesAt Makes bytesOfFrame highOf lowOf stepOf
 makes =
     case-at MakesAt kinds
-    ((λ a b set key number term t. (Start a, (refl, refl, λ h. h .a)))
-    ▸ (λ a b set key number term t. (Elect a set, (refl, refl, λ h. (h .a, h .set))))
-    ▸ (λ a b set key number term t. (StepDown a, (refl, refl, λ h. h .a)))
-    ▸ (λ a b set key number term t. (Hears a b, (refl, refl, λ h. (h .a, h .b))))
-    ▸ (λ a b set key number term t. (Pulls a b, (refl, refl, λ h. (h .a, h .b))))
-    ▸ (λ a b set key number term t. (RollsBack a b, (refl, refl, λ h. (h .a, h .b))))
-    ▸ (λ a b set key number term t. (Writes a key number, (refl, refl, λ h. (h .a, h .key, h .number))))
-    ▸ (λ a b set key number term t. (Advances a, (refl, refl, λ h. h .a)))
-    ▸ (λ a b set key number term t. (WallClock a, (refl, refl, λ h. h .a)))
-    ▸ (λ a b set key number term t. (Restarts a, (refl, refl, λ h. h .a)))
-    ▸ (λ a b set key number term t. (LocalRead a key t, (refl, refl, λ h. (h .a, h .key, record { p = h .p; l = h .l }))))
-    ▸ (λ a b set key number term t. (MajorityRead a key t, (refl, refl, λ h. (h .a, h .key, record { p = h .p; l = h .l }))))
-    ▸ (λ a b set key number term t. (Acknowledged a set number term, (refl, refl, λ h. (h .a, h .set, h .number, h .term))))
-    ▸ (λ a b set key number term t. (ClocksAgree, (refl, refl, λ h. tt)))
+    ((λ a b set key number term t. (Start a, (refl, refl, λ h. omega arith)))
+    ▸ (λ a b set key number term t. (Elect a set, (refl, refl, λ h. omega arith)))
+    ▸ (λ a b set key number term t. (StepDown a, (refl, refl, λ h. omega arith)))
+    ▸ (λ a b set key number term t. (Hears a b, (refl, refl, λ h. omega arith)))
+    ▸ (λ a b set key number term t. (Pulls a b, (refl, refl, λ h. omega arith)))
+    ▸ (λ a b set key number term t. (RollsBack a b, (refl, refl, λ h. omega arith)))
+    ▸ (λ a b set key number term t. (Writes a key number, (refl, refl, λ h. omega arith)))
+    ▸ (λ a b set key number term t. (Advances a, (refl, refl, λ h. omega arith)))
+    ▸ (λ a b set key number term t. (WallClock a, (refl, refl, λ h. omega arith)))
+    ▸ (λ a b set key number term t. (Restarts a, (refl, refl, λ h. omega arith)))
+    ▸ (λ a b set key number term t. (LocalRead a key t, (refl, refl, λ h. omega arith)))
+    ▸ (λ a b set key number term t. (MajorityRead a key t, (refl, refl, λ h. omega arith)))
+    ▸ (λ a b set key number term t. (Acknowledged a set number term, (refl, refl, λ h. omega arith)))
+    ▸ (λ a b set key number term t. (ClocksAgree, (refl, refl, λ h. omega arith)))
     ▸ tt)
 
 is-step : {s t : Step} → R.Step s ≡ R.Step t → s ≡ t
@@ -88,7 +90,7 @@ unfolding Read stepIn MakesAt Makes frameOf
 read-from bs s h n = go (isClean kind bs) refl
   where
     kind : ℕ
-    kind = byteAt bs (at .kind)
+    kind = byteAt bs 0
 
     made : isClean kind bs ≡ true → stepOf (frameOf bs) ≡ R.Step s → kind < kinds → Read bs s
     made c e l =
@@ -108,7 +110,7 @@ unfolding Written stepIn bytesOfFrame
 read-written-step s h =
     let w = written s in
     let f = frameFor s in
-    framed-hex stepBytes stepIn R.NoFrame (bytesOfFrame f) (frame-bytes (w .2 h)) (frame-length f)
+    framed-hex stepBytes stepIn R.NoFrame (bytesOfFrame f) (frame-bytes h) (frame-length f)
     ∙ ap (λ (t : Bool). cond t (stepOf (frameOf (bytesOfFrame f))) R.NoFrame) (w .0) ∙ ap stepOf (fields-of-bytes f) ∙ w .1
 
 -- one step has one frame: a line that reads as a step is the line that it is written as

@@ -8,7 +8,8 @@ use lib.Dec.{eqb}
 use lib.ListN.{getD}
 use Rattle.base.specs.Numbers.{every}
 use Rattle.base.proofs.Every.{every-at}
-use Rattle.frames.specs.Layout.{stepBytes, kinds, mustBeZero, isTable}
+use Rattle.frames.specs.Layout.{stepBytes}
+use Rattle.frames.specs.Kinds.{kinds, mustBeZero, isTable}
 
 bit-one : (b : Bool) → eqb (cond b 1 0) 1 ≡ b
 bit-one true = refl

@@ -4,12 +4,13 @@ use mathlib.Core.Bool.{Bool, true, false, cond}
 use mathlib.Core.List.{List}
 use Prim.Native.Nat.{ℕ, _≤_}
 use lib.ListN.{List·getD-eq-default}
-use Rattle.frames.specs.declared.Frame.{Frame}
+use Rattle.steps.specs.declared.Frame.{Frame}
 use Rattle.frames.specs.declared.ReadStep.{ReadStep}
 use Rattle.frames.specs.declared.ReadStep.the-variants.{NoFrame}
 use Rattle.words.specs.Words.{byteAt}
-use Rattle.frames.specs.Layout.{kinds, at, isClean}
-use Rattle.frames.specs.Steps.{frameOf, stepsOf, stepOf, stepIn}
+use Rattle.frames.specs.Layout.{frameOf}
+use Rattle.frames.specs.Kinds.{kinds, isClean, stepsOf, stepOf}
+use Rattle.frames.specs.Steps.{stepIn}
 
 pub unknown-kind : (f : Frame) → kinds ≤ f .kind → stepOf f ≡ NoFrame
 unfolding stepOf
@@ -19,6 +20,6 @@ both-none : (b : Bool) (x : ReadStep) → x ≡ NoFrame → cond b x NoFrame ≡
 both-none true x e = e
 both-none false x e = refl
 
-pub unknown-in : (bs : List ℕ) → kinds ≤ byteAt bs (at .kind) → stepIn bs ≡ NoFrame
+pub unknown-in : (bs : List ℕ) → kinds ≤ byteAt bs 0 → stepIn bs ≡ NoFrame
 unfolding stepIn frameOf
-unknown-in bs h = both-none (isClean (byteAt bs (at .kind)) bs) _ (unknown-kind (frameOf bs) h)
+unknown-in bs h = both-none (isClean (byteAt bs 0) bs) _ (unknown-kind (frameOf bs) h)

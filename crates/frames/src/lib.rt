@@ -1,8 +1,12 @@
 // Step frames: lines of hexadecimal, read and written by one layout.
 ghost use mathlib.Core.Path.{_≡_};
-ghost use Rattle.frames.specs.Steps.{fields, frameFor, bytesOfFrame, frameOf, stepOf, stepIn, readStep, writeStep};
+ghost use Rattle.steps.specs.Fields.{fields, frameFor};
+ghost use Rattle.frames.specs.Layout.{bytesOfFrame, frameOf};
+ghost use Rattle.frames.specs.Kinds.{stepOf};
+ghost use Rattle.frames.specs.Steps.{stepIn, readStep, writeStep};
 use clock::Time;
 use clock::ZERO_TIME;
+use steps::Frame;
 use steps::Step;
 use words::high;
 use words::low;
@@ -14,18 +18,6 @@ mod masks;
 pub enum ReadStep {
     Step(Step),
     NoFrame,
-}
-
-// The fields of a step frame, in the order of its bytes; set is a set or a count.
-struct Frame {
-    kind: u8,
-    a: u8,
-    b: u8,
-    set: u8,
-    key: u8,
-    number: u16,
-    term: u16,
-    time: Time,
 }
 
 const STEP_BYTES: usize = 13;

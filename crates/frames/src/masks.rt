@@ -2,7 +2,8 @@
 ghost use mathlib.Core.Path.{_≡_};
 ghost use mathlib.Core.Bool.{true};
 ghost use Prim.Native.Nat.{_<_};
-ghost use Rattle.frames.specs.Layout.{kinds, stepBytes, mustBeZero, isTable, byteOk, isClean};
+ghost use Rattle.frames.specs.Layout.{stepBytes};
+ghost use Rattle.frames.specs.Kinds.{kinds, mustBeZero, isTable, byteOk, isClean};
 use crate::STEP_BYTES;
 
 pub(crate) const KINDS: usize = 14;

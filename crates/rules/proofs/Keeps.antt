@@ -109,12 +109,12 @@ done-sound c (Start n) h f k =
     let two = leb-true _ n (k .0) in
     let seven = leb-true n _ (k .1 .0) in
     record { fits = fits-fresh n seven; good = good-fresh n two seven }
-done-sound c (Elect a m) h f k = elected-sound (h refl) a m (f .1) k
+done-sound c (Elect a m) h f k = elected-sound (h refl) a m (f .set) k
 done-sound c (StepDown a) h f k = put (h refl) a _ (k .0) down-sound
 done-sound c (Hears a b) h f k = put (h refl) a _ (k .0) (λ x. heard-sound x (at (h refl) b (k .1 .0)))
 done-sound c (Pulls a b) h f k = put (h refl) a _ (k .0) (λ x. pulled-sound x (at (h refl) b (k .1 .0)) (k .1 .1 .1))
 done-sound c (RollsBack a b) h f k = put (h refl) a _ (k .0) (λ x. rolled-sound x (at (h refl) b (k .1 .0)) (k .1 .1 .1))
-done-sound c (Writes a key value) h f k = put (h refl) a _ (k .0) (λ x. wrote-sound x key value (f .2) (k .1))
+done-sound c (Writes a key value) h f k = put (h refl) a _ (k .0) (λ x. wrote-sound x key value (f .number) (k .1))
 done-sound c (Advances a) h f k = advanced-sound (h refl) a (k .0)
 done-sound c (WallClock a) h f k = put (h refl) a _ (k .0) (λ x. wall-sound x _ (omega arith) (omega (arith, ltb-true (serverAt c a .wall) limit (k .1 .0))))
 done-sound c (Restarts a) h f k = put (h refl) a _ (k .0) restarted-sound

@@ -1,6 +1,6 @@
 -- 01's table of steps: for each kind its rules in order, what it gives where none is broken, and the step over any record. Assumes nothing.
 use mathlib.Core.List.{[], _∷_}
-use mathlib.Core.Bool.{Bool, true, false, cond, not, _||_}
+use mathlib.Core.Bool.{Bool, cond, not, _||_}
 use Prim.Native.Nat.{ℕ}
 use lib.Dec.{eqb, ltb}
 use Rattle.cluster.specs.declared.Cluster.{Cluster}
@@ -12,6 +12,7 @@ use Rattle.steps.specs.declared.Refusal.{Refusal}
 use Rattle.steps.specs.declared.Refusal.the-variants.{IllFormed, OutOfRange}
 use Rattle.steps.specs.declared.Stepped.{Stepped}
 use Rattle.steps.specs.declared.Outcome.{Outcome}
+use Rattle.steps.specs.Fields.{frameFor}
 use Rattle.steps.specs.Refusals.{Rules, decided}
 use Rattle.steps.specs.Answers.{refusingAll}
 use Rattle.pairs.specs.Hears.{hearsOf}
@@ -68,21 +69,9 @@ doneOf c s = rowOf c s .1
 unfoldable pub coreOf : Cluster → Step → Outcome
 coreOf c s = decided (refusingAll c) (doneOf c s) (rulesOf c s)
 
+-- a start is kind 0
 abbrev pub isStart : Step → Bool
-isStart (Start n) = true
-isStart (Elect a m) = false
-isStart (StepDown a) = false
-isStart (Hears a b) = false
-isStart (Pulls a b) = false
-isStart (RollsBack a b) = false
-isStart (Writes a key value) = false
-isStart (Advances a) = false
-isStart (WallClock a) = false
-isStart (Restarts a) = false
-isStart (LocalRead a key asked) = false
-isStart (MajorityRead a key asked) = false
-isStart (Acknowledged a k n term) = false
-isStart ClocksAgree = false
+isStart s = eqb (frameFor s .kind) 0
 
 -- an ill-formed record is refused first; a start doesn't look at it
 unfoldable pub stepOf : Cluster → Step → Outcome

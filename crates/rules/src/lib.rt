@@ -131,19 +131,7 @@ pub fn is_start(step: Step) -> bool
 {
     match step {
         Step::Start(_) => true,
-        Step::Elect(_, _) => false,
-        Step::StepDown(_) => false,
-        Step::Hears(_, _) => false,
-        Step::Pulls(_, _) => false,
-        Step::RollsBack(_, _) => false,
-        Step::Writes(_, _, _) => false,
-        Step::Advances(_) => false,
-        Step::WallClock(_) => false,
-        Step::Restarts(_) => false,
-        Step::LocalRead(_, _, _) => false,
-        Step::MajorityRead(_, _, _) => false,
-        Step::Acknowledged(_, _, _, _) => false,
-        Step::ClocksAgree => false,
+        _ => false,
     }
 }
 

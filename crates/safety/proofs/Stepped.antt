@@ -81,7 +81,7 @@ module _ {n : ℕ} {some : 0 < n} {c : Cluster} (now : Now n some c) where
       → Clear (rulesOf c s) → Next (majorities n some) c (doneOf c s .cluster)
   unfolding rowOf
   done-next (Start k) f no-start wf h = absurd (no-start refl refl)
-  done-next (Elect a m) f no-start wf h = record { goes = sees-elect c (now .fits) most a m (f .1) h; counted = refl }
+  done-next (Elect a m) f no-start wf h = record { goes = sees-elect c (now .fits) most a m (f .set) h; counted = refl }
   done-next (StepDown a) f no-start wf h = record { goes = sees-down c (now .fits) a h; counted = refl }
   done-next (Hears a b) f no-start wf h = record { goes = sees-hears c (now .fits) a b h; counted = refl }
   done-next (Pulls a b) f no-start wf h =

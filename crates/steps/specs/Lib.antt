@@ -1,4 +1,5 @@
--- Refusals in order, and what an answer says. Assumes nothing.
+-- Refusals in order, what an answer says, and the fields that a step fills. Assumes nothing.
 pub mod Refusals
 pub mod Answers
+pub mod Fields
 pub mod Ranges

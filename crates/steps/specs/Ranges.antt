@@ -1,23 +1,21 @@
--- What the type of a step gives: every field fits its bytes. Assumes nothing.
+-- What the type of a step gives: every field of its frame fits its bytes. Assumes nothing.
 use Prim.Native.Nat.{_<_, _≤_}
 use Rattle.base.specs.Numbers.{byte}
 use Rattle.clock.specs.Times.{limit}
 use Rattle.clock.specs.Ranges.{FitsTime}
+use Rattle.steps.specs.declared.Frame.{Frame}
 use Rattle.steps.specs.declared.Step.{Step}
-use Rattle.steps.specs.declared.Step.the-variants.{Start, Elect, StepDown, Hears, Pulls, RollsBack, Writes, Advances, WallClock, Restarts, LocalRead, MajorityRead, Acknowledged, ClocksAgree}
+use Rattle.steps.specs.Fields.{frameFor}
+
+pub record FitsFrame (f : Frame) : Type 0 where
+  pub kind : f .kind < byte
+  pub a : f .a < byte
+  pub b : f .b < byte
+  pub set : f .set < byte
+  pub key : f .key < byte
+  pub number : f .number ≤ limit
+  pub term : f .term ≤ limit
+  pub time : FitsTime (f .time)
 
 abbrev pub FitsStep : Step → Type 0
-FitsStep (Start a) = a < byte
-FitsStep (Elect a set) = (a < byte) × (set < byte)
-FitsStep (StepDown a) = a < byte
-FitsStep (Hears a b) = (a < byte) × (b < byte)
-FitsStep (Pulls a b) = (a < byte) × (b < byte)
-FitsStep (RollsBack a b) = (a < byte) × (b < byte)
-FitsStep (Writes a key value) = (a < byte) × (key < byte) × (value ≤ limit)
-FitsStep (Advances a) = a < byte
-FitsStep (WallClock a) = a < byte
-FitsStep (Restarts a) = a < byte
-FitsStep (LocalRead a key time) = (a < byte) × (key < byte) × FitsTime time
-FitsStep (MajorityRead a key time) = (a < byte) × (key < byte) × FitsTime time
-FitsStep (Acknowledged a count position term) = (a < byte) × (count < byte) × (position ≤ limit) × (term ≤ limit)
-FitsStep ClocksAgree = Unit {0}
+FitsStep s = FitsFrame (frameFor s)

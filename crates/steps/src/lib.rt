@@ -36,6 +36,18 @@ pub enum Step {
     ClocksAgree,
 }
 
+// The fields of a step frame, in the order of its bytes; set is a set or a count.
+pub struct Frame {
+    pub kind: u8,
+    pub a: u8,
+    pub b: u8,
+    pub set: u8,
+    pub key: u8,
+    pub number: u16,
+    pub term: u16,
+    pub time: Time,
+}
+
 // In the order of their numbers, from 1.
 pub enum Refusal {
     NotAFrame,

@@ -1,5 +1,5 @@
 -- `frames::bytes_of_frame` meets its contract. Assumes nothing.
-use Rattle.frames.specs.Steps.{bytesOfFrame}
+use Rattle.frames.specs.Layout.{bytesOfFrame}
 use borrow.Author.Needs.{needs}
 use Rattle.frames.proofs.bytes_of_frame.Statement.{statement}
 use Rattle.frames.proofs.bytes_of_frame.Tie as tie

@@ -1,5 +1,5 @@
 -- `frames::frame_for` meets its contract. Assumes nothing.
-use Rattle.frames.specs.Steps.{frameFor}
+use Rattle.steps.specs.Fields.{frameFor}
 use mathlib.Core.Path.{sym, ap, _∙_}
 use borrow.Author.Needs.{needs}
 use Rattle.frames.proofs.frame_for.Statement.{statement}
@@ -90,59 +90,45 @@ fields-requires-14 : tie.Need-fields-requires-14
 fields-requires-14 c κs = search needs
 
 returns : tie.Need-returns
-unfolding frameFor
 returns c = c .fields .ensures ∙ sym (ap frameFor (c .before .before .s .given .1))
 
 returns-2 : tie.Need-returns-2
-unfolding frameFor
 returns-2 c = c .fields2 .ensures ∙ sym (ap frameFor (c .before .before .s2 .given .1))
 
 returns-3 : tie.Need-returns-3
-unfolding frameFor
 returns-3 c = c .fields3 .ensures ∙ sym (ap frameFor (c .before .before .s3 .given .1))
 
 returns-4 : tie.Need-returns-4
-unfolding frameFor
 returns-4 c = c .fields4 .ensures ∙ sym (ap frameFor (c .before .before .s4 .given .1))
 
 returns-5 : tie.Need-returns-5
-unfolding frameFor
 returns-5 c = c .fields5 .ensures ∙ sym (ap frameFor (c .before .before .s5 .given .1))
 
 returns-6 : tie.Need-returns-6
-unfolding frameFor
 returns-6 c = c .fields6 .ensures ∙ sym (ap frameFor (c .before .before .s6 .given .1))
 
 returns-7 : tie.Need-returns-7
-unfolding frameFor
 returns-7 c = c .fields7 .ensures ∙ sym (ap frameFor (c .before .before .s7 .given .1))
 
 returns-8 : tie.Need-returns-8
-unfolding frameFor
 returns-8 c = c .fields8 .ensures ∙ sym (ap frameFor (c .before .before .s8 .given .1))
 
 returns-9 : tie.Need-returns-9
-unfolding frameFor
 returns-9 c = c .fields9 .ensures ∙ sym (ap frameFor (c .before .before .s9 .given .1))
 
 returns-10 : tie.Need-returns-10
-unfolding frameFor
 returns-10 c = c .fields10 .ensures ∙ sym (ap frameFor (c .before .before .s10 .given .1))
 
 returns-11 : tie.Need-returns-11
-unfolding frameFor
 returns-11 c = c .fields11 .ensures ∙ sym (ap frameFor (c .before .before .s11 .given .1))
 
 returns-12 : tie.Need-returns-12
-unfolding frameFor
 returns-12 c = c .fields12 .ensures ∙ sym (ap frameFor (c .before .before .s12 .given .1))
 
 returns-13 : tie.Need-returns-13
-unfolding frameFor
 returns-13 c = c .fields13 .ensures ∙ sym (ap frameFor (c .before .before .s13 .given .1))
 
 returns-14 : tie.Need-returns-14
-unfolding frameFor
 returns-14 c = c .fields14 .ensures ∙ sym (ap frameFor (c .before .enum-told .given .1))
 
 pub frame-for-spec : {M : Type 1} → statement M

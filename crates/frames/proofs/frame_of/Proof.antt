@@ -1,8 +1,8 @@
 -- `frames::frame_of` meets its contract. Assumes nothing.
-use Rattle.frames.specs.declared.Frame.{Frame}
+use Rattle.steps.specs.declared.Frame.{Frame}
 use Rattle.words.specs.Words.{byteAt, wordAt}
-use Rattle.frames.specs.Layout.{at}
-use Rattle.frames.specs.Steps.{fields, frameOf}
+use Rattle.steps.specs.Fields.{fields}
+use Rattle.frames.specs.Layout.{frameOf}
 use mathlib.Core.List.{List}
 use mathlib.Core.Path.{_≡_}
 use Prim.Native.Nat.{ℕ}
@@ -11,8 +11,8 @@ use Rattle.frames.proofs.frame_of.Statement.{statement}
 use Rattle.frames.proofs.frame_of.Tie as tie
 
 made : (bs : List ℕ) (f : Frame) (number term p l : ℕ)
-    → f ≡ fields (byteAt bs (at .kind)) (byteAt bs (at .a)) (byteAt bs (at .b)) (byteAt bs (at .set)) (byteAt bs (at .key)) number term (record { p = p; l = l })
-    → number ≡ wordAt bs (at .number) → term ≡ wordAt bs (at .term) → p ≡ wordAt bs (at .time .p) → l ≡ wordAt bs (at .time .l) → f ≡ frameOf bs
+    → f ≡ fields (byteAt bs 0) (byteAt bs 1) (byteAt bs 2) (byteAt bs 3) (byteAt bs 4) number term (record { p = p; l = l })
+    → number ≡ wordAt bs 5 → term ≡ wordAt bs 7 → p ≡ wordAt bs 9 → l ≡ wordAt bs 11 → f ≡ frameOf bs
 unfolding frameOf
 made bs f number term p l d e g h i = cc
 

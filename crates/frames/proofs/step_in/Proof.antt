@@ -1,6 +1,8 @@
 -- `frames::step_in` meets its contract. Assumes nothing.
 use Rattle.frames.specs.declared.ReadStep.the-variants.{NoFrame}
-use Rattle.frames.specs.Steps.{frameOf, stepOf, stepIn}
+use Rattle.frames.specs.Layout.{frameOf}
+use Rattle.frames.specs.Kinds.{stepOf}
+use Rattle.frames.specs.Steps.{stepIn}
 use Rattle.frames.proofs.Unknown.{unknown-in}
 use Rattle.base.proofs.Bools.{said-no, said-yes}
 use mathlib.Core.Bool.{Bool, cond}

@@ -1,8 +1,7 @@
 -- `frames::step_of` meets its contract. Assumes nothing.
-use Rattle.frames.specs.declared.Frame.{Frame}
+use Rattle.steps.specs.declared.Frame.{Frame}
 use Rattle.frames.specs.declared.ReadStep.the-variants.{NoFrame}
-use Rattle.frames.specs.Layout.{kinds}
-use Rattle.frames.specs.Steps.{stepsOf, stepOf}
+use Rattle.frames.specs.Kinds.{kinds, stepsOf, stepOf}
 use Rattle.frames.proofs.Unknown.{unknown-kind}
 use native.Mathlib.Omega.{arith}
 use lib.ListN.{getD}

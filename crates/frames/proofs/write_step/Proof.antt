@@ -1,10 +1,10 @@
 -- `frames::write_step` meets its contract. Assumes nothing.
-use Rattle.frames.specs.Layout.{stepBytes}
+use Rattle.steps.specs.Fields.{frameFor}
+use Rattle.frames.specs.Layout.{stepBytes, bytesOfFrame}
 use Rattle.frames.proofs.Lengths.{frame-length}
 use lib.ListN.{length}
 use Rattle.hex.specs.Lines.{hexOf}
 use Rattle.hex.proofs.Trips.{enhexed}
-use Rattle.frames.specs.Steps.{frameFor, bytesOfFrame}
 use mathlib.Core.Path.{ap, _∙_}
 use borrow.Author.Needs.{needs}
 use Rattle.frames.proofs.write_step.Statement.{statement}

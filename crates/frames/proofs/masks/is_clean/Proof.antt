@@ -1,6 +1,7 @@
 -- `frames::masks::is_clean` meets its contract. Assumes nothing.
 use Rattle.words.specs.Words.{byteAt}
-use Rattle.frames.specs.Layout.{stepBytes, byteOk, isClean}
+use Rattle.frames.specs.Layout.{stepBytes}
+use Rattle.frames.specs.Kinds.{byteOk, isClean}
 use Rattle.base.specs.Numbers.{every}
 use Rattle.base.proofs.Bools.{said-no, said-yes}
 use Rattle.base.proofs.Every.{every-none, every-more, every-fails}
