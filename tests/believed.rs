@@ -1,6 +1,6 @@
 //! The definitions that a reader has to believe: all that 01's step, texts and frames and demand 3's
 //! promises are made of, found by following names through every `crates/*/specs`. Writes how many
-//! lines of each file they are, and fails where they are more than some 700 or a name is missing.
+//! lines of each file they are, and fails where they are more than 700 or a name is missing.
 
 use std::collections::{BTreeMap, BTreeSet, HashMap};
 use std::fs;
@@ -22,8 +22,8 @@ const ROOTS: [(&str, &str); 11] = [
     ("demand3.Promise", "Never9InTexts"),
     ("demand3.Promise", "Never9Written"),
 ];
-/// Some 700.
-const MOST: usize = 720;
+/// How many lines they may be.
+const MOST: usize = 700;
 
 /// A definition by its module, as `log.Entries`, and its name.
 type Place = (String, String);
