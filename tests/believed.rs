@@ -1,6 +1,7 @@
-//! The definitions that a reader has to believe: all that 01's step, texts and frames and demand 3's
-//! promises are made of, found by following names through every `crates/*/specs`. Writes how many
-//! lines of each file they are, and fails where they are more than 700 or a name is missing.
+//! The definitions that a reader has to believe: all that 01's step, texts and frames, the ranges of
+//! the types and demand 3's promises are made of, found by following names through every
+//! `crates/*/specs`. Writes how many lines of each file they are, and fails where they are more than
+//! 700 or a name is missing.
 
 use std::collections::{BTreeMap, BTreeSet, HashMap};
 use std::fs;
@@ -9,7 +10,7 @@ use std::path::Path;
 use std::process::ExitCode;
 
 /// Where the following starts: a module and what it defines.
-const ROOTS: [(&str, &str); 11] = [
+const ROOTS: [(&str, &str); 13] = [
     ("rules.Rules", "stepOf"),
     ("replay.Texts", "answers"),
     ("replay.Texts", "leaves"),
@@ -17,6 +18,8 @@ const ROOTS: [(&str, &str); 11] = [
     ("frames.Steps", "writeStep"),
     ("answers.Answers", "readAnswer"),
     ("answers.Answers", "writeAnswer"),
+    ("answers.Ranges", "FitsTelling"),
+    ("cluster.Ranges", "Fits"),
     ("safety.Promise", "Promised"),
     ("demand3.Promise", "Promised"),
     ("demand3.Promise", "Never9InTexts"),
