@@ -21,7 +21,7 @@ const ROOTS: [(&str, &str); 13] = [
     ("answers.Ranges", "FitsTelling"),
     ("cluster.Ranges", "Fits"),
     ("safety.Promise", "Promised"),
-    ("demand3.Promise", "Promised"),
+    ("demand3.Promise", "PromisedInTexts"),
     ("demand3.Promise", "Never9InTexts"),
     ("demand3.Promise", "Never9Written"),
 ];

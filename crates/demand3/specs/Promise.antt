@@ -59,11 +59,11 @@ pub record Stretch (text : List ℕ) : Type 0 where
   pub none-onward : NoneBegins (recordAfter (begunAfter before start) until) onward
 
 -- the record after the start line, the one at the moment, and the one after the lines onward
-abbrev pub begun : {text : List ℕ} → Stretch text → Cluster
-begun t = begunAfter (t .before) (t .start)
+abbrev pub opening : {text : List ℕ} → Stretch text → Cluster
+opening t = begunAfter (t .before) (t .start)
 
 abbrev pub moment : {text : List ℕ} → Stretch text → Cluster
-moment t = recordAfter (begun t) (t .until)
+moment t = recordAfter (opening t) (t .until)
 
 abbrev pub later : {text : List ℕ} → Stretch text → Cluster
 later t = recordAfter (moment t) (t .onward)
@@ -79,22 +79,22 @@ pub record KeptFor (x y : Cluster) (s k : ℕ) : Type 0 where
   pub reads : (line : Line) (q : ℕ) (asked : Time) (v : ℕ) (time : Time) → readStep line ≡ R.Step (MajorityRead q (entryOf x s k .key) asked)
       → isBefore asked (entryOf x s k .time) ≡ false → answerTo y line .answer ≡ Value v time → Shows y q (entryOf x s k) k v
 
-pub record Promise {text : List ℕ} (t : Stretch text) : Type 0 where
+pub record StretchPromise {text : List ℕ} (t : Stretch text) : Type 0 where
   -- the start line has begun a fresh cluster of two to seven servers, and there are still as many
   pub fewest : fewestServers ≤ t .count
   pub most : t .count ≤ mostServers
-  pub fresh : begun t ≡ freshCluster (t .count)
+  pub fresh : opening t ≡ freshCluster (t .count)
   pub counted : later t .count ≡ t .count
   -- whatever a server's commit point covers at the moment is kept ever after
   pub kept : (s k : ℕ) → s < t .count → 1 ≤ k → k ≤ serverAt (moment t) s .commit → KeptFor (moment t) (later t) s k
   -- refusal 9 is never given, before the moment, after it, or to any line that comes next
-  pub never-9-until : Never9On (begun t) (t .until)
+  pub never-9-until : Never9On (opening t) (t .until)
   pub never-9-onward : Never9On (moment t) (t .onward)
   pub never-9-next : (line : Line) → answerTo (later t) line .answer ≢ Refused BelowCommitPoint
 
 -- for any text, however mangled, from each start line that is answered with done
-abbrev pub Promised : Type 0
-Promised = (text : List ℕ) (t : Stretch text) → Promise t
+abbrev pub PromisedInTexts : Type 0
+PromisedInTexts = (text : List ℕ) (t : Stretch text) → StretchPromise t
 
 -- no line of any text that a new program is given is answered with refusal 9, whatever starts are among them
 abbrev pub Never9InTexts : Type 0

@@ -19,7 +19,7 @@ use Rattle.frames.specs.declared.ReadStep.the-variants as R
 use Rattle.words.specs.Words.{highOf, lowOf, byteAt}
 use Rattle.steps.specs.Fields.{fields, frameFor}
 use Rattle.frames.specs.Layout.{stepBytes, bytesOfFrame, frameOf}
-use Rattle.frames.specs.Kinds.{kinds, isClean, stepOf}
+use Rattle.frames.specs.Kinds.{kinds, isClean, stepOfFrame}
 use Rattle.frames.specs.Steps.{stepIn, readStep, writeStep}
 use Rattle.base.proofs.Cases.{_▸_, case-at}
 use Rattle.words.proofs.Framed.{framed-hex, is-frame}
@@ -29,10 +29,10 @@ use Rattle.frames.proofs.StepFrames.{frame-bytes, bytes-fit, fields-of-
 
 -- the frame of a step is clean and makes that step
 Written : Step → Type 0
-Written s = (isClean (frameFor s .kind) (bytesOfFrame (frameFor s)) ≡ true) × (stepOf (frameFor s) ≡ R.Step s)
+Written s = (isClean (frameFor s .kind) (bytesOfFrame (frameFor s)) ≡ true) × (stepOfFrame (frameFor s) ≡ R.Step s)
 
 written : (s : Step) → Written s
-unfolding Written isClean every bytesOfFrame highOf lowOf stepOf
+unfolding Written isClean every bytesOfFrame highOf lowOf stepOfFrame
 written (Start a) = (refl, refl)
 written (Elect a set) = (refl, refl)
 written (StepDown a) = (refl, refl)
@@ -50,13 +50,13 @@ written ClocksAgree = (refl, refl)
 
 -- what a frame of kind k makes: a step, whose frame is that frame with what the kind doesn't use put to zero
 Makes : Frame → Type 0
-Makes f = (s : Step) × ((stepOf f ≡ R.Step s) × (bytesOfFrame (frameFor s) ≡ masked (f .kind) (bytesOfFrame f)) × (FitsFrame f → FitsStep s))
+Makes f = (s : Step) × ((stepOfFrame f ≡ R.Step s) × (bytesOfFrame (frameFor s) ≡ masked (f .kind) (bytesOfFrame f)) × (FitsFrame f → FitsStep s))
 
 MakesAt : ℕ → Type 0
 MakesAt k = (a b set key number term : ℕ) (t : Time) → Makes (fields k a b set key number term t)
 
 makes : (k : ℕ) → k < kinds → MakesAt k
-unfolding MakesAt Makes bytesOfFrame highOf lowOf stepOf
+unfolding MakesAt Makes bytesOfFrame highOf lowOf stepOfFrame
 makes =
     case-at MakesAt kinds
     ((λ a b set key number term t. (Start a, (refl, refl, λ h. omega arith)))
@@ -92,7 +92,7 @@ read-from bs s h n = go (isClean kind bs) refl
     kind : ℕ
     kind = byteAt bs 0
 
-    made : isClean kind bs ≡ true → stepOf (frameOf bs) ≡ R.Step s → kind < kinds → Read bs s
+    made : isClean kind bs ≡ true → stepOfFrame (frameOf bs) ≡ R.Step s → kind < kinds → Read bs s
     made c e l =
         let m : Makes (frameOf bs) = makes kind l _ _ _ _ _ _ _ in
         let q : m .0 ≡ s = is-step (sym (m .1 .0) ∙ e) in (
@@ -100,7 +100,7 @@ read-from bs s h n = go (isClean kind bs) refl
           subst FitsStep q (m .1 .2 (bytes-fit bs h)),
         )
 
-    go : (t : Bool) → isClean kind bs ≡ t → cond t (stepOf (frameOf bs)) R.NoFrame ≡ R.Step s → Read bs s
+    go : (t : Bool) → isClean kind bs ≡ t → cond t (stepOfFrame (frameOf bs)) R.NoFrame ≡ R.Step s → Read bs s
     go true c e = ⊎-elim (made c e) (λ l. absurd (no-step (sym (unknown-kind (frameOf bs) l) ∙ e))) (lt-or-le kind kinds)
     go false c e = absurd (no-step e)
 
@@ -111,7 +111,7 @@ read-written-step s h =
     let w = written s in
     let f = frameFor s in
     framed-hex stepBytes stepIn R.NoFrame (bytesOfFrame f) (frame-bytes h) (frame-length f)
-    ∙ ap (λ (t : Bool). cond t (stepOf (frameOf (bytesOfFrame f))) R.NoFrame) (w .0) ∙ ap stepOf (fields-of-bytes f) ∙ w .1
+    ∙ ap (λ (t : Bool). cond t (stepOfFrame (frameOf (bytesOfFrame f))) R.NoFrame) (w .0) ∙ ap stepOfFrame (fields-of-bytes f) ∙ w .1
 
 -- one step has one frame: a line that reads as a step is the line that it is written as
 pub written-read-step : (line : List ℕ) (s : Step) → readStep line ≡ R.Step s → writeStep s ≡ line

@@ -9,11 +9,11 @@ use Rattle.frames.specs.declared.ReadStep.{ReadStep}
 use Rattle.frames.specs.declared.ReadStep.the-variants.{NoFrame}
 use Rattle.words.specs.Words.{byteAt}
 use Rattle.frames.specs.Layout.{frameOf}
-use Rattle.frames.specs.Kinds.{kinds, isClean, stepsOf, stepOf}
+use Rattle.frames.specs.Kinds.{kinds, isClean, stepsOf, stepOfFrame}
 use Rattle.frames.specs.Steps.{stepIn}
 
-pub unknown-kind : (f : Frame) → kinds ≤ f .kind → stepOf f ≡ NoFrame
-unfolding stepOf
+pub unknown-kind : (f : Frame) → kinds ≤ f .kind → stepOfFrame f ≡ NoFrame
+unfolding stepOfFrame
 unknown-kind f h = List·getD-eq-default (stepsOf f) NoFrame h
 
 both-none : (b : Bool) (x : ReadStep) → x ≡ NoFrame → cond b x NoFrame ≡ NoFrame

@@ -37,8 +37,8 @@ stepsOf f =
     ∷ []
 
 -- an unknown kind is no frame
-unfoldable pub stepOf : Frame → ReadStep
-stepOf f = getD (stepsOf f) (f .kind) R.NoFrame
+unfoldable pub stepOfFrame : Frame → ReadStep
+stepOfFrame f = getD (stepsOf f) (f .kind) R.NoFrame
 
 -- a frame of the kind with every other field at its highest, and what its step fills of it
 abbrev pub fullOf : ℕ → Frame
@@ -50,7 +50,7 @@ filledOf R.NoFrame = fields 0 0 0 0 0 0 0 zeroTime
 
 -- a byte must be zero where the kind doesn't use it: it is not the kind's own, and it is zero even where every field was full
 abbrev pub mustBeZero : ℕ → ℕ → Bool
-mustBeZero kind i = ltb 0 i && eqb (byteAt (bytesOfFrame (filledOf (stepOf (fullOf kind)))) i) 0
+mustBeZero kind i = ltb 0 i && eqb (byteAt (bytesOfFrame (filledOf (stepOfFrame (fullOf kind)))) i) 0
 
 -- the rule of a table of masks: bit i of a kind's mask is 1 where byte i must be zero
 unfoldable pub isTable : List ℕ → Bool

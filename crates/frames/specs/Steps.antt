@@ -9,14 +9,14 @@ use Rattle.words.specs.Words.{byteAt, framed}
 use Rattle.frames.specs.declared.ReadStep.{ReadStep}
 use Rattle.frames.specs.declared.ReadStep.the-variants.{NoFrame}
 use Rattle.frames.specs.Layout.{stepBytes, bytesOfFrame, frameOf}
-use Rattle.frames.specs.Kinds.{stepOf, isClean}
+use Rattle.frames.specs.Kinds.{stepOfFrame, isClean}
 
 abbrev pub writeStep : Step → List ℕ
 writeStep s = hexOf (bytesOfFrame (frameFor s))
 
 -- an unused byte that is not zero is no frame
 unfoldable pub stepIn : List ℕ → ReadStep
-stepIn bs = cond (isClean (byteAt bs 0) bs) (stepOf (frameOf bs)) NoFrame
+stepIn bs = cond (isClean (byteAt bs 0) bs) (stepOfFrame (frameOf bs)) NoFrame
 
 -- any line: what isn't a frame of a step is no frame
 abbrev pub readStep : List ℕ → ReadStep

@@ -2,7 +2,7 @@
 ghost use mathlib.Core.Path.{_≡_};
 ghost use Rattle.steps.specs.Fields.{fields, frameFor};
 ghost use Rattle.frames.specs.Layout.{bytesOfFrame, frameOf};
-ghost use Rattle.frames.specs.Kinds.{stepOf};
+ghost use Rattle.frames.specs.Kinds.{stepOfFrame};
 ghost use Rattle.frames.specs.Steps.{stepIn, readStep, writeStep};
 use clock::Time;
 use clock::ZERO_TIME;
@@ -67,7 +67,7 @@ fn frame_of(b: [u8; STEP_BYTES]) -> Frame
 
 // The step that the kind makes of the fields that it uses.
 fn step_of(f: Frame) -> ReadStep
-    ensures { λ r. ⌜ r ≡ stepOf f ⌝ }
+    ensures { λ r. ⌜ r ≡ stepOfFrame f ⌝ }
 {
     let kind = f.kind;
     let t = f.time;

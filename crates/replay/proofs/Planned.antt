@@ -19,20 +19,20 @@ use Rattle.rules.proofs.Parts.{core-down, core-hears, core-pulls, core-rolls-ba
 use Rattle.replay.specs.declared.Plan.{Plan}
 use Rattle.replay.specs.declared.Plan.the-variants.{Refuse, Server, Record}
 use Rattle.replay.specs.Texts.{respond}
-use Rattle.replay.specs.Plans.{alone, apart, placeOf, planOf, carriedOut}
+use Rattle.replay.specs.Plans.{planAlone, planApart, placeOf, planOf, carriedOut}
 
 -- ---- what is carried out
 
-alone-does : (c : Cluster) (a : ℕ) (s : Step) → carriedOut c (alone (serverCount c) a s) ≡ singleOf c a s
-unfolding carriedOut alone singleOf
+alone-does : (c : Cluster) (a : ℕ) (s : Step) → carriedOut c (planAlone (serverCount c) a s) ≡ singleOf c a s
+unfolding carriedOut planAlone singleOf
 alone-does c a s = go (ltb a (serverCount c))
   where
     go : (t : Bool) → carriedOut c (cond t (Server a a s) (Refuse OutOfRange)) ≡ cond t (putBack c a (oneOf (serverAt c a) (serverAt c a) s)) (refusingAll c OutOfRange)
     go true = refl
     go false = refl
 
-apart-does : (c : Cluster) (a b : ℕ) (s : Step) → carriedOut c (apart (serverCount c) a b s) ≡ pairOf c a b s
-unfolding carriedOut apart pairOf
+apart-does : (c : Cluster) (a b : ℕ) (s : Step) → carriedOut c (planApart (serverCount c) a b s) ≡ pairOf c a b s
+unfolding carriedOut planApart pairOf
 apart-does c a b s = go (ltb a (serverCount c)) (ltb b (serverCount c)) (eqb a b)
   where
     go : (t u v : Bool)
@@ -80,16 +80,16 @@ Names size (Refuse r) = Unit {0}
 Names size (Server a b s) = Inside size a b
 Names size (Record s) = Unit {0}
 
-alone-names : (size a : ℕ) (s : Step) → Names size (alone size a s)
-unfolding alone
+alone-names : (size a : ℕ) (s : Step) → Names size (planAlone size a s)
+unfolding planAlone
 alone-names size a s = go (ltb a size) refl
   where
     go : (t : Bool) → ltb a size ≡ t → Names size (cond t (Server a a s) (Refuse OutOfRange))
     go true e = record { first = ltb-true a size e; second = ltb-true a size e }
     go false e = tt
 
-apart-names : (size a b : ℕ) (s : Step) → Names size (apart size a b s)
-unfolding apart
+apart-names : (size a b : ℕ) (s : Step) → Names size (planApart size a b s)
+unfolding planApart
 apart-names size a b s = go (ltb a size) (ltb b size) (eqb a b) refl refl
   where
     go : (t u v : Bool) → ltb a size ≡ t → ltb b size ≡ u

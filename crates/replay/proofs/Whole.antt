@@ -41,21 +41,21 @@ line-last b [] e q = ap (λ (x : Bool). onLine x b []) e
 line-last b (d ∷ ds) e (more f r) = ap (λ (x : Bool). onLine x b (lines (d ∷ ds))) e ∙ ap (onLine false b) (line-last d ds f r)
 
 -- a reader stands for the bytes p that it was given since the last line feed
-pub data Holds : Reader → List ℕ → Type 0 where
-  fits : {r : Reader} {p : List ℕ} → r .over ≡ false → r .fill ≡ length p → length p ≤ kept → take (length p) (r .held) ≡ p → length (r .held) ≡ kept → Holds r p
-  long : {r : Reader} {p : List ℕ} → r .over ≡ true → kept ≤ r .fill → kept < length p → Holds r p
+pub data StandsFor : Reader → List ℕ → Type 0 where
+  fits : {r : Reader} {p : List ℕ} → r .over ≡ false → r .fill ≡ length p → length p ≤ kept → take (length p) (r .held) ≡ p → length (r .held) ≡ kept → StandsFor r p
+  long : {r : Reader} {p : List ℕ} → r .over ≡ true → kept ≤ r .fill → kept < length p → StandsFor r p
 
-fresh-holds : Holds freshReader []
+fresh-holds : StandsFor freshReader []
 fresh-holds = fits {p = []} refl refl (omega arith) refl refl
 
 snoc-long : (p : List ℕ) (b : ℕ) → length (p ++ (b ∷ [])) ≡ length p + 1
 snoc-long p b = length-append p (b ∷ [])
 
-push-holds : {r : Reader} {p : List ℕ} (b : ℕ) → Holds r p → Holds (pushOf r b) (p ++ (b ∷ []))
+push-holds : {r : Reader} {p : List ℕ} (b : ℕ) → StandsFor r p → StandsFor (pushOf r b) (p ++ (b ∷ []))
 unfolding pushOf
 push-holds {r} {p} b (fits o f l t n) = go (ltb (r .fill) kept) refl
   where
-    go : (x : Bool) → ltb (r .fill) kept ≡ x → Holds (cond x (record { held = set (r .held) (r .fill) b; fill = r .fill + 1; over = r .over }) (record { held = r .held; fill = r .fill; over = true })) (p ++ (b ∷ []))
+    go : (x : Bool) → ltb (r .fill) kept ≡ x → StandsFor (cond x (record { held = set (r .held) (r .fill) b; fill = r .fill + 1; over = r .over }) (record { held = r .held; fill = r .fill; over = true })) (p ++ (b ∷ []))
     go true e =
         let h : r .fill < kept = ltb-true _ kept e in
         fits {r = record { held = set (r .held) (r .fill) b; fill = r .fill + 1; over = r .over }} {p = p ++ (b ∷ [])} o (omega (arith, snoc-long p b)) (omega (arith, snoc-long p b))
@@ -65,7 +65,7 @@ push-holds {r} {p} b (fits o f l t n) = go (ltb (r .fill) kept) refl
     go false e = let h : kept ≤ r .fill = ltb-false _ kept e in long {p = p ++ (b ∷ [])} refl h (omega (arith, snoc-long p b))
 push-holds {r} {p} b (long o f l) = go (ltb (r .fill) kept) refl
   where
-    go : (x : Bool) → ltb (r .fill) kept ≡ x → Holds (cond x (record { held = set (r .held) (r .fill) b; fill = r .fill + 1; over = r .over }) (record { held = r .held; fill = r .fill; over = true })) (p ++ (b ∷ []))
+    go : (x : Bool) → ltb (r .fill) kept ≡ x → StandsFor (cond x (record { held = set (r .held) (r .fill) b; fill = r .fill + 1; over = r .over }) (record { held = r .held; fill = r .fill; over = true })) (p ++ (b ∷ []))
     go true e = let h : r .fill < kept = ltb-true _ kept e in let z : ⊥ = omega arith in absurd z
     go false e = long {p = p ++ (b ∷ [])} refl f (omega (arith, snoc-long p b))
 
@@ -74,7 +74,7 @@ not-kept : (s : Cluster) (x y : List ℕ) → (length x ≡ kept → ⊥) → (l
 unfolding answerTo framed
 not-kept s x y p q = simp (ne-eqb _ kept p, ne-eqb _ kept q)
 
-held-answer : (s : Cluster) {r : Reader} {p : List ℕ} → Holds r p → answerTo s (lineHeld r) ≡ answerTo s p
+held-answer : (s : Cluster) {r : Reader} {p : List ℕ} → StandsFor r p → answerTo s (lineHeld r) ≡ answerTo s p
 unfolding lineHeld
 held-answer s {r} {p} (fits o f l t n) =
     ap (answerTo s) (simp (o, f, le-leb _ kept l) t)
@@ -82,18 +82,18 @@ held-answer s {r} {p} (long o f l) =
     let m : length p ≡ kept → ⊥ = λ e. omega arith in
     simp o (not-kept s tooLong p (λ e. omega arith) m)
 
-held-empty : {r : Reader} → Holds r [] → isEmpty r ≡ true
+held-empty : {r : Reader} → StandsFor r [] → isEmpty r ≡ true
 held-empty (fits o f l t n) = simp (o, f)
 held-empty (long o f l) = let z : ⊥ = omega arith in absurd z
 
-held-some : {r : Reader} {b : ℕ} {p : List ℕ} → Holds r (b ∷ p) → isEmpty r ≡ false
+held-some : {r : Reader} {b : ℕ} {p : List ℕ} → StandsFor r (b ∷ p) → isEmpty r ≡ false
 held-some {r} {b} {p} (fits o f l t n) = simp (o, ne-eqb (r .fill) 0 (λ e. omega arith))
 held-some (long o f l) = simp o
 
 -- from any point of a line
 abbrev Right : List ℕ → Type 0
 Right text =
-    (s : Cluster) (r : Reader) (p : List ℕ) → Plain p → Holds r p
+    (s : Cluster) (r : Reader) (p : List ℕ) → Plain p → StandsFor r p
     → says (record { cluster = s; reader = r }) text ++ ending (runs (record { cluster = s; reader = r }) text) ≡ answersTo s (lines (p ++ text))
 
 from : (text : List ℕ) → Right text
@@ -218,7 +218,7 @@ within s text room r e =
 -- from any point of a line
 abbrev Leaves : List ℕ → Type 0
 Leaves text =
-    (s : Cluster) (r : Reader) (p : List ℕ) → Plain p → Holds r p → ended (runs (record { cluster = s; reader = r }) text) ≡ recordAfter s (lines (p ++ text))
+    (s : Cluster) (r : Reader) (p : List ℕ) → Plain p → StandsFor r p → ended (runs (record { cluster = s; reader = r }) text) ≡ recordAfter s (lines (p ++ text))
 
 left : (text : List ℕ) → Leaves text
 unfolding ended after

@@ -18,27 +18,27 @@ use Rattle.replay.specs.declared.Plan.{Plan}
 use Rattle.replay.specs.declared.Plan.the-variants.{Refuse, Server, Record}
 
 -- one server, whose number is in range
-unfoldable pub alone : ℕ → ℕ → Step → Plan
-alone size a s = cond (ltb a size) (Server a a s) (Refuse OutOfRange)
+unfoldable pub planAlone : ℕ → ℕ → Step → Plan
+planAlone size a s = cond (ltb a size) (Server a a s) (Refuse OutOfRange)
 
 -- two servers, not the same
-unfoldable pub apart : ℕ → ℕ → ℕ → Step → Plan
-apart size a b s =
+unfoldable pub planApart : ℕ → ℕ → ℕ → Step → Plan
+planApart size a b s =
     cond (ltb a size) (cond (ltb b size) (cond (eqb a b) (Refuse OutOfRange) (Server a b s)) (Refuse OutOfRange)) (Refuse OutOfRange)
 
 unfoldable pub placeOf : ℕ → Step → Plan
 placeOf size (S.Start n) = Record (S.Start n)
 placeOf size (S.Elect a m) = Record (S.Elect a m)
-placeOf size (S.StepDown a) = alone size a (S.StepDown a)
-placeOf size (S.Hears a b) = apart size a b (S.Hears a b)
-placeOf size (S.Pulls a b) = apart size a b (S.Pulls a b)
-placeOf size (S.RollsBack a b) = apart size a b (S.RollsBack a b)
-placeOf size (S.Writes a key value) = alone size a (S.Writes a key value)
+placeOf size (S.StepDown a) = planAlone size a (S.StepDown a)
+placeOf size (S.Hears a b) = planApart size a b (S.Hears a b)
+placeOf size (S.Pulls a b) = planApart size a b (S.Pulls a b)
+placeOf size (S.RollsBack a b) = planApart size a b (S.RollsBack a b)
+placeOf size (S.Writes a key value) = planAlone size a (S.Writes a key value)
 placeOf size (S.Advances a) = Record (S.Advances a)
-placeOf size (S.WallClock a) = alone size a (S.WallClock a)
-placeOf size (S.Restarts a) = alone size a (S.Restarts a)
-placeOf size (S.LocalRead a key asked) = alone size a (S.LocalRead a key asked)
-placeOf size (S.MajorityRead a key asked) = alone size a (S.MajorityRead a key asked)
+placeOf size (S.WallClock a) = planAlone size a (S.WallClock a)
+placeOf size (S.Restarts a) = planAlone size a (S.Restarts a)
+placeOf size (S.LocalRead a key asked) = planAlone size a (S.LocalRead a key asked)
+placeOf size (S.MajorityRead a key asked) = planAlone size a (S.MajorityRead a key asked)
 placeOf size (S.Acknowledged a k n term) = Record (S.Acknowledged a k n term)
 placeOf size S.ClocksAgree = Record S.ClocksAgree
 

@@ -5,7 +5,7 @@ ghost use lib.ListN.{length};
 ghost use Rattle.frames.specs.Steps.{readStep};
 ghost use Rattle.replay.specs.Texts.{respond, lineOf};
 ghost use Rattle.replay.specs.Pieces.{answerLine, freshReader, begun, lineHeld, pushOf, placed, isEmpty, fedOf, fedOut, finishOf, finishOut};
-ghost use Rattle.replay.specs.Plans.{alone, apart, placeOf, planOf};
+ghost use Rattle.replay.specs.Plans.{planAlone, planApart, placeOf, planOf};
 use cluster::Cluster;
 use frames::ReadStep;
 use steps::Answer;
@@ -101,7 +101,7 @@ pub fn step_held(r: Reader) -> ReadStep
 }
 
 fn plan_alone(size: usize, a: usize, s: Step) -> Plan
-    ensures { λ r. ⌜ r ≡ alone size a s ⌝ }
+    ensures { λ r. ⌜ r ≡ planAlone size a s ⌝ }
 {
     if a < size {
         Plan::Server(a, a, s)
@@ -111,7 +111,7 @@ fn plan_alone(size: usize, a: usize, s: Step) -> Plan
 }
 
 fn plan_apart(size: usize, a: usize, b: usize, s: Step) -> Plan
-    ensures { λ r. ⌜ r ≡ apart size a b s ⌝ }
+    ensures { λ r. ⌜ r ≡ planApart size a b s ⌝ }
 {
     if size <= a {
         return Plan::Refuse(Refusal::OutOfRange);

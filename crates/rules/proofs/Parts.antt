@@ -22,7 +22,7 @@ use Rattle.singles.specs.WallClock.{clockRules, clockDone}
 use Rattle.singles.specs.Writes.{writeRules, writeDone}
 use Rattle.singles.specs.LocalRead.{localRules, localDone}
 use Rattle.singles.specs.MajorityRead.{majorityRules, majorityDone}
-use Rattle.rules.specs.Rules.{rowOf, apart, putBack, coreOf}
+use Rattle.rules.specs.Rules.{rowOf, bothInRange, putBack, coreOf}
 use Rattle.rules.specs.One.{oneOf, singleOf, pairOf}
 use Rattle.rules.proofs.Others.{put-same}
 
@@ -62,8 +62,8 @@ module _ (c : Cluster) (a : ℕ) where
   core-majority key asked = in-place _ _ (placed c a (majorityDone (serverAt c a) key) (majorityRules (serverAt c a) key asked))
 
   module _ (b : ℕ) where
-    apart-place : (x y : Outcome) → x ≡ y → decided (refusingAll c) x (apart c a b []) ≡ decided (refusingAll c) y (apart c a b [])
-    apart-place x y e = ap (λ (o : Outcome). decided (refusingAll c) o (apart c a b [])) e
+    apart-place : (x y : Outcome) → x ≡ y → decided (refusingAll c) x (bothInRange c a b []) ≡ decided (refusingAll c) y (bothInRange c a b [])
+    apart-place x y e = ap (λ (o : Outcome). decided (refusingAll c) o (bothInRange c a b [])) e
 
     pub core-hears : pairOf c a b (Hears a b) ≡ coreOf c (Hears a b)
     unfolding pairOf oneOf coreOf rowOf

@@ -36,7 +36,7 @@ use Rattle.pairs.specs.Pulls.{pullRules, tookOf, pulledOf}
 use Rattle.pairs.specs.RollsBack.{common, rollRules, rolledOf}
 use Rattle.singles.specs.StepsDown.{downOf}
 use Rattle.singles.specs.Restarts.{restartedOf}
-use Rattle.singles.specs.Writes.{ticks, tickTime, writeRules, entryOf, wroteOf}
+use Rattle.singles.specs.Writes.{ticks, tickTime, writeRules, newEntry, wroteOf}
 use Rattle.counts.specs.Advances.{committedOf}
 use Rattle.rules.proofs.Others.{officeOf, wallOf}
 use Rattle.rules.proofs.Logs.{log-raised, appended-good, joined-good}
@@ -187,26 +187,26 @@ module _ {s : Server} (h : ServerSound s) (key value : ℕ) (small : value ≤ l
       keyed : key ≤ highestKey
       keyed = leb-true _ _ (c .0)
 
-      entry-fits : FitsEntry (entryOf s key value u)
+      entry-fits : FitsEntry (newEntry s key value u)
       entry-fits = record { term = h .fits .term; key = omega (arith, keyed); value = small; time = time-fits }
 
-      entry-good : EntryGood (s .term) (entryOf s key value u)
+      entry-good : EntryGood (s .term) (newEntry s key value u)
       entry-good = record { from-one = h .good .primary-term (c .1 .1 .0); not-above = omega arith; key = keyed; value = leb-true 1 value (c .1 .0) }
 
-      live-is : live (appended (s .log) (entryOf s key value u)) ≡ live (s .log) ++ (entryOf s key value u ∷ [])
-      live-is = live-appended (h .good .log .tidy) (entryOf s key value u) room
+      live-is : live (appended (s .log) (newEntry s key value u)) ≡ live (s .log) ++ (newEntry s key value u ∷ [])
+      live-is = live-appended (h .good .log .tidy) (newEntry s key value u) room
 
-      last : appliedTime (live (appended (s .log) (entryOf s key value u))) ≡ u
-      last = ap (λ (es : List Entry). appliedTime es) live-is ∙ ap (λ (e : Entry). e .time) (last-more (live (s .log)) (entryOf s key value u))
+      last : appliedTime (live (appended (s .log) (newEntry s key value u))) ≡ u
+      last = ap (λ (es : List Entry). appliedTime es) live-is ∙ ap (λ (e : Entry). e .time) (last-more (live (s .log)) (newEntry s key value u))
 
-      longer : s .log .len < appended (s .log) (entryOf s key value u) .len
+      longer : s .log .len < appended (s .log) (newEntry s key value u) .len
       longer =
           omega (
             arith,
             tidy-length (h .good .log .tidy),
-            tidy-length (tidy-appended (h .good .log .tidy) (entryOf s key value u) room),
+            tidy-length (tidy-appended (h .good .log .tidy) (newEntry s key value u) room),
             ap (λ (es : List Entry). length es) live-is,
-            length-more (live (s .log)) (entryOf s key value u),
+            length-more (live (s .log)) (newEntry s key value u),
           )
 
   pub wrote-sound : ServerSound (wroteOf s key value (tickTime (tickOf (s .wall) (s .time))))

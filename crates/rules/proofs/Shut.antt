@@ -40,7 +40,7 @@ Program = Cluster → Step → Outcome
 pub record Differs (p : Program) : Type 0 where
   pub from : Cluster
   pub takes : Step
-  pub apart : p from takes ≡ stepOf from takes → ⊥
+  pub differs : p from takes ≡ stepOf from takes → ⊥
 
 -- ---- an election and two reads that are allowed
 
@@ -92,7 +92,7 @@ refusing-differs p h =
     record {
       from = fresh;
       takes = election;
-      apart = λ e. true≢false (sym (h fresh election) ∙ ap (λ (o : Outcome). isRefused (o .answer)) e ∙ ap isRefused (runs .elects));
+      differs = λ e. true≢false (sym (h fresh election) ∙ ap (λ (o : Outcome). isRefused (o .answer)) e ∙ ap isRefused (runs .elects));
     }
 
 -- one whose answer line never varies: two reads give two values
@@ -104,10 +104,10 @@ unvarying-differs p t h = go t refl
     line s a is e = sym (h written s) ∙ ap (λ (o : Outcome). tellingOf (o .answer)) e ∙ ap tellingOf is
 
     at-written : (t ≡ T.Numbers 41 0 written-at → ⊥) → Differs p
-    at-written other = record { from = written; takes = reading 5; apart = λ e. other (line (reading 5) (A.Value 41 written-at) (runs .reads-written) e) }
+    at-written other = record { from = written; takes = reading 5; differs = λ e. other (line (reading 5) (A.Value 41 written-at) (runs .reads-written) e) }
 
     at-none : (t ≡ T.Numbers 0 0 written-at → ⊥) → Differs p
-    at-none other = record { from = written; takes = reading 6; apart = λ e. other (line (reading 6) (A.Value 0 written-at) (runs .reads-none) e) }
+    at-none other = record { from = written; takes = reading 6; differs = λ e. other (line (reading 6) (A.Value 0 written-at) (runs .reads-none) e) }
 
     number : (b : Bool) (n term : ℕ) (time : Time) → eqb n 41 ≡ b → t ≡ T.Numbers n term time → Differs p
     number true n term time q is = let z = eqb-true n 41 q in at-none (λ e. let y : n ≡ 0 = cc in omega arith)
@@ -119,7 +119,7 @@ unvarying-differs p t h = go t refl
 
 -- one that leaves every well-formed record as it is, whatever it does with others: the election changes the fresh cluster
 pub echoing-differs : (p : Program) → ((c : Cluster) (s : Step) → wellFormed c ≡ true → p c s .cluster ≡ c) → Differs p
-echoing-differs p h = record { from = fresh; takes = election; apart = same }
+echoing-differs p h = record { from = fresh; takes = election; differs = same }
   where
     same : p fresh election ≡ stepOf fresh election → ⊥
     same e =

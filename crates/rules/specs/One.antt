@@ -12,7 +12,7 @@ use Rattle.steps.specs.declared.Answer.the-variants.{Done}
 use Rattle.cluster.specs.Servers.{serverAt}
 use Rattle.steps.specs.Refusals.{decided}
 use Rattle.steps.specs.Answers.{refusingAll}
-use Rattle.rules.specs.Rules.{inRange, apart, putBack}
+use Rattle.rules.specs.Rules.{inRange, bothInRange, putBack}
 use Rattle.pairs.specs.Hears.{hearsOf}
 use Rattle.pairs.specs.Pulls.{pullsOf}
 use Rattle.pairs.specs.RollsBack.{rollsBackOf}
@@ -49,4 +49,4 @@ singleOf c a s = decided (refusingAll c) (putBack c a (oneOf (serverAt c a) (ser
 
 -- server a of the record takes the step, looking at server b
 unfoldable pub pairOf : Cluster → ℕ → ℕ → Step → Outcome
-pairOf c a b s = decided (refusingAll c) (putBack c a (oneOf (serverAt c a) (serverAt c b) s)) (apart c a b [])
+pairOf c a b s = decided (refusingAll c) (putBack c a (oneOf (serverAt c a) (serverAt c b) s)) (bothInRange c a b [])

@@ -35,8 +35,8 @@ abbrev pub inRange : Cluster → ℕ → Bool × Refusal
 inRange c a = (ltb a (serverCount c), OutOfRange)
 
 -- two servers, not the same
-abbrev pub apart : Cluster → ℕ → ℕ → Rules → Rules
-apart c a b rs = inRange c a ∷ inRange c b ∷ (not (eqb a b), OutOfRange) ∷ rs
+abbrev pub bothInRange : Cluster → ℕ → ℕ → Rules → Rules
+bothInRange c a b rs = inRange c a ∷ inRange c b ∷ (not (eqb a b), OutOfRange) ∷ rs
 
 -- server a as a step left it, the others unchanged, and its answer
 abbrev pub putBack : Cluster → ℕ → Stepped → Outcome
@@ -47,9 +47,9 @@ unfoldable pub rowOf : Cluster → Step → Rules × Outcome
 rowOf c (Start n) = (startRules n, startDone n)
 rowOf c (Elect a m) = (electRules c a m, electDone c a m)
 rowOf c (StepDown a) = (inRange c a ∷ downRules (serverAt c a), putBack c a (downDone (serverAt c a)))
-rowOf c (Hears a b) = (apart c a b [], putBack c a (hearsOf (serverAt c a) (serverAt c b)))
-rowOf c (Pulls a b) = (apart c a b (pullRules (serverAt c a) (serverAt c b)), putBack c a (pullDone (serverAt c a) (serverAt c b)))
-rowOf c (RollsBack a b) = (apart c a b (rollRules (serverAt c a) (serverAt c b)), putBack c a (rollDone (serverAt c a) (serverAt c b)))
+rowOf c (Hears a b) = (bothInRange c a b [], putBack c a (hearsOf (serverAt c a) (serverAt c b)))
+rowOf c (Pulls a b) = (bothInRange c a b (pullRules (serverAt c a) (serverAt c b)), putBack c a (pullDone (serverAt c a) (serverAt c b)))
+rowOf c (RollsBack a b) = (bothInRange c a b (rollRules (serverAt c a) (serverAt c b)), putBack c a (rollDone (serverAt c a) (serverAt c b)))
 rowOf c (Writes a key value) = (inRange c a ∷ writeRules (serverAt c a) key value, putBack c a (writeDone (serverAt c a) key value))
 rowOf c (Advances a) = (advanceRules c a, advanceDone c a)
 rowOf c (WallClock a) = (inRange c a ∷ clockRules (serverAt c a), putBack c a (clockDone (serverAt c a)))

@@ -7,18 +7,18 @@ use Prim.Native.Nat.{ℕ, zero, suc, _≤_, _<_}
 use native.Mathlib.Decide.{decLe, ℕ-discrete}
 use native.Mathlib.Omega.{arith}
 use Rattle.safety.specs.Quorum.{Quorums}
-use Rattle.safety.specs.Cluster.{Entry, Log, Agree, Server, Seen, commitTime, Holds}
+use Rattle.safety.specs.Cluster.{EntrySeen, LogSeen, Agree, ServerSeen, Seen, commitTimeSeen, Holds}
 use Rattle.safety.specs.Steps.{Fresh, Walk}
 use Rattle.safety.specs.Demand3.{LastFor, Shown, Demand3}
 use Rattle.safety.proofs.Leads.{Rooted, rooted-pair, new-pair, terms-rise, times-rise}
 use Rattle.safety.proofs.Inv.{Chosen, Settled, Open, rooted-at, chosen-open, settled-open, kept-lead, reach, chosen-agree}
 use Rattle.safety.proofs.Reached.{Known, Later, walk-known, reached}
 
-time-of : {e f : Entry} → e ≡ f → e .time ≡ f .time
-time-of q = ap (λ (x : Entry). x .time) q
+time-of : {e f : EntrySeen} → e ≡ f → e .time ≡ f .time
+time-of q = ap (λ (x : EntrySeen). x .time) q
 
 -- where entry n is for key x there is a last one for it, not before n
-last-for : (L : Log) (x m n : ℕ) → n ≤ m → L n .key ≡ x → (p : ℕ) × LastFor L x m p × (n ≤ p)
+last-for : (L : LogSeen) (x m n : ℕ) → n ≤ m → L n .key ≡ x → (p : ℕ) × LastFor L x m p × (n ≤ p)
 last-for L x zero n h e =
     let q : n ≡ 0 = omega arith in
     (0, record { within = omega arith; key = rw q at e; last = λ j a b. absurd (omega arith) }, h)
@@ -86,7 +86,7 @@ module _ {𝓠 : Quorums} {v v′ : Seen} (K : Known 𝓠 v) (K′ : Known 𝓠 
   commit-holds q n nk nc = record { long = omega (arith, K′ .inv .settled q .within); same = commits-agree q n nk nc }
 
   -- a commit time that has reached the time of entry n belongs to a commit point that has reached n
-  time-covers : (q n : ℕ) → n ≤ k → v i .log n .time ≤ commitTime (v′ q) → n ≤ v′ q .commit
+  time-covers : (q n : ℕ) → n ≤ k → v i .log n .time ≤ commitTimeSeen (v′ q) → n ≤ v′ q .commit
   time-covers q n nk h = by-cases (decLe n (v′ q .commit)) (λ y. y) (λ y. absurd (short (omega arith)))
     where
       short : v′ q .commit < n → ⊥
@@ -94,11 +94,11 @@ module _ {𝓠 : Quorums} {v v′ : Seen} (K : Known 𝓠 v) (K′ : Known 𝓠 
           let e = time-of (commits-agree q (v′ q .commit) (omega arith) (omega arith) (v′ q .commit) (omega arith)) in
           omega (arith, times-rise (K .inv .tree) (K .inv .own i) (v′ q .commit) n l (omega (arith, set .within)))
 
-  read : (q n : ℕ) → n ≤ k → v i .log n .time ≤ commitTime (v′ q) → Shown (v i .log n) n (v′ q)
+  read : (q n : ℕ) → n ≤ k → v i .log n .time ≤ commitTimeSeen (v′ q) → Shown (v i .log n) n (v′ q)
   read q n nk h =
       let nc = time-covers q n nk h in
       let e = commits-agree q n nk nc n (omega arith) in
-      let r = last-for (v′ q .log) (v i .log n .key) (v′ q .commit) n nc (ap (λ (x : Entry). x .key) e) in
+      let r = last-for (v′ q .log) (v i .log n .key) (v′ q .commit) n nc (ap (λ (x : EntrySeen). x .key) e) in
       let within : r .0 ≤ v′ q .len = omega (arith, r .1 .within, K′ .inv .settled q .within) in
       record {
         found = r .0;
@@ -108,7 +108,7 @@ module _ {𝓠 : Quorums} {v v′ : Seen} (K : Known 𝓠 v) (K′ : Known 𝓠 
         newer = λ l. omega (arith, time-of e, times-rise (K′ .inv .tree) (K′ .inv .own q) n (r .0) l within);
       }
 
-shorter : {n k : ℕ} {L : Log} {s : Server} → n ≤ k → Holds k L s → Holds n L s
+shorter : {n k : ℕ} {L : LogSeen} {s : ServerSeen} → n ≤ k → Holds k L s → Holds n L s
 shorter h x = record { long = omega (arith, x .long); same = λ j jn. x .same j (omega arith) }
 
 pub demand3 : {𝓠 : Quorums} {u v v′ : Seen} → Fresh u → Walk 𝓠 u v → Walk 𝓠 v v′ → (i n : ℕ) → n ≤ v i .commit → Demand3 𝓠 v v′ i n

@@ -7,7 +7,7 @@ use Prim.Native.Nat.{ℕ, suc, _≤_, _<_}
 use native.Mathlib.Decide.{decLe}
 use native.Mathlib.Omega.{arith}
 use Rattle.safety.specs.Quorum.{Quorums}
-use Rattle.safety.specs.Cluster.{Server, Seen, Holds, NotBehind}
+use Rattle.safety.specs.Cluster.{ServerSeen, Seen, Holds, NotBehind}
 use Rattle.safety.specs.Steps.{SameLog, Elects}
 use Rattle.safety.proofs.Leads.{Leads, terms-rise, times-rise, log-begins, Grown, grown-rooted}
 use Rattle.safety.proofs.Leads.{Leading, led, led-lead, led-own, led-grown, led-tree}
@@ -25,7 +25,7 @@ module _ {𝓠 : Quorums} {v v′ : Seen} {g : Leads} {ack : Acks} (inv : Inv �
   g′ = led g t (v a)
 
   -- what holds of a member afterwards, and held of any other server before, holds afterwards
-  voters : (i : ℕ) (P : Server → Type 0) → (members i ≡ true → P (v′ i)) → P (v i) → P (v′ i)
+  voters : (i : ℕ) (P : ServerSeen → Type 0) → (members i ≡ true → P (v′ i)) → P (v i) → P (v′ i)
   voters i P x y = go (members i) refl
     where
       go : (b : Bool) → members i ≡ b → P (v′ i)
@@ -49,7 +49,7 @@ module _ {𝓠 : Quorums} {v v′ : Seen} {g : Leads} {ack : Acks} (inv : Inv �
   raised i = voters i (λ s. v i .term ≤ s .term) (λ m. omega (arith, el .low i m, el .voted i m .term)) (omega arith)
 
   -- a primary afterwards is the winner, or was one before in the same term
-  abbrev Won : ℕ → Server → Type 0
+  abbrev Won : ℕ → ServerSeen → Type 0
   Won i s = ((i ≡ a) × (s .term ≡ t)) ⊎ ((v i .primary ≡ true) × (s .term ≡ v i .term))
 
   won : (i : ℕ) → v′ i .primary ≡ true → Won i (v′ i)

@@ -7,7 +7,7 @@ use Prim.Native.Nat.{ℕ, suc, _≤_, _<_}
 use native.Mathlib.Decide.{decLe, ℕ-discrete}
 use native.Mathlib.Omega.{arith}
 use Rattle.safety.specs.Quorum.{Quorums}
-use Rattle.safety.specs.Cluster.{Log, Agree, Server, Seen, lastTerm, Holds, Upto, NotBehind, Others}
+use Rattle.safety.specs.Cluster.{LogSeen, Agree, ServerSeen, Seen, lastTermSeen, Holds, Upto, NotBehind, Others}
 use Rattle.safety.specs.Steps.{Copies, pulls, rollsBack}
 use Rattle.safety.proofs.Leads.{Leads, Rooted, Pair, Tree, term-of, rooted-pair, rooted-down, terms-rise, Grown, old-pair}
 
@@ -20,7 +20,7 @@ abbrev pub Chosen : Quorums → Acks → ℕ → ℕ → Type 0
 Chosen 𝓠 ack t n = 𝓠 .Most (λ i. n < ack i t)
 
 -- position k of s's log is settled: a commit point may stand there
-pub record Settled (𝓠 : Quorums) (ack : Acks) (s : Server) (k : ℕ) : Type 0 where
+pub record Settled (𝓠 : Quorums) (ack : Acks) (s : ServerSeen) (k : ℕ) : Type 0 where
   pub within : k ≤ s .len
   pub chosen : Chosen 𝓠 ack (s .log k .term) k
 
@@ -30,11 +30,11 @@ pub record Open (𝓠 : Quorums) (v : Seen) (g : Leads) (ack : Acks) (t n : ℕ)
   pub most : 𝓠 .Most (λ i. (v i .term ≤ t) ⊎ (n < ack i t))
 
 -- the lead L of size l is the log of s
-abbrev pub LogOf : Server → Log → ℕ → Type 0
+abbrev pub LogOf : ServerSeen → LogSeen → ℕ → Type 0
 LogOf s L l = (l ≡ suc (s .len)) × Agree (s .len) (s .log) L
 
 -- a lead M of size m has the first n entries of L
-abbrev pub Has : ℕ → Log → Log → ℕ → Type 0
+abbrev pub Has : ℕ → LogSeen → LogSeen → ℕ → Type 0
 Has n L M m = (n < m) × Agree n M L
 
 pub record Inv (𝓠 : Quorums) (v : Seen) (g : Leads) (ack : Acks) : Type 0 where
@@ -42,13 +42,13 @@ pub record Inv (𝓠 : Quorums) (v : Seen) (g : Leads) (ack : Acks) : Type 0 whe
   -- a quorum has reached every term that was won
   pub behind : (u : ℕ) → 0 < g .size u → 𝓠 .Most (λ i. u ≤ v i .term)
   pub own : (i : ℕ) → Rooted g (v i .log) (v i .len)
-  pub terms : (i : ℕ) → lastTerm (v i) ≤ v i .term
+  pub terms : (i : ℕ) → lastTermSeen (v i) ≤ v i .term
   pub rule : (i : ℕ) → v i .primary ≡ true → LogOf (v i) (g .lead (v i .term)) (g .size (v i .term))
   pub one : (i j : ℕ) → v i .primary ≡ true → v j .primary ≡ true → v i .term ≡ v j .term → i ≡ j
   pub acks : (i t : ℕ) → ack i t ≤ g .size t
   -- later leads keep an open pair, and whoever acknowledged it still reaches it
   pub kept : (t n u : ℕ) → Open 𝓠 v g ack t n → t < u → 0 < g .size u → Has n (g .lead t) (g .lead u) (g .size u)
-  pub held : (t n i : ℕ) → Open 𝓠 v g ack t n → n < ack i t → Upto t n (lastTerm (v i)) (v i .len)
+  pub held : (t n i : ℕ) → Open 𝓠 v g ack t n → n < ack i t → Upto t n (lastTermSeen (v i)) (v i .len)
   pub settled : (i : ℕ) → Settled 𝓠 ack (v i) (v i .commit)
   -- the empty log is settled everywhere: a restart goes back to it
   pub base : Chosen 𝓠 ack 0 0
@@ -60,7 +60,7 @@ upto-trans p q =
     record { le = omega arith; eq = λ h. let x = p .eq (omega arith) in let y = q .eq (omega arith) in omega arith }
 
 -- a server that holds what is settled in another's log has it settled too
-pub settled-holds : {𝓠 : Quorums} {ack : Acks} {r s : Server} {k : ℕ} → Holds k (r .log) s → Settled 𝓠 ack r k → Settled 𝓠 ack s k
+pub settled-holds : {𝓠 : Quorums} {ack : Acks} {r s : ServerSeen} {k : ℕ} → Holds k (r .log) s → Settled 𝓠 ack r k → Settled 𝓠 ack s k
 settled-holds {k = k} h c = record { within = h .long; chosen = rw (h .same k (omega arith)) (c .chosen) }
 
 -- open pairs get fewer: terms rise, and an acknowledgement is won only by a server that counted already
@@ -82,7 +82,7 @@ acknowledged {𝓠} o past q =
     (m .0, ⊎-elim (λ h. absurd (omega (arith, past (m .0) (m .2)))) (λ h. h) (m .1), m .2)
 
 -- what holds of a afterwards, and held of each other server before, holds of each server afterwards
-pub replaced : {v v′ : Seen} {a : ℕ} → Others v v′ a → (P : ℕ → Server → Type 0) → P a (v′ a) → (i : ℕ) → (i ≢ a → P i (v i))
+pub replaced : {v v′ : Seen} {a : ℕ} → Others v v′ a → (P : ℕ → ServerSeen → Type 0) → P a (v′ a) → (i : ℕ) → (i ≢ a → P i (v i))
     → P i (v′ i)
 replaced {v} {v′} {a} o P x i y = go (ℕ-discrete i a)
   where
@@ -91,10 +91,10 @@ replaced {v} {v′} {a} o P x i y = go (ℕ-discrete i a)
     go (no ne) = rw (o i ne) (y ne)
 
 -- a server whose log is not behind what it was reaches what it reached
-pub reaches : {v v′ : Seen} {a : ℕ} → Others v v′ a → NotBehind (v′ a) (v a) → (t n i : ℕ) → Upto t n (lastTerm (v i)) (v i .len)
-    → Upto t n (lastTerm (v′ i)) (v′ i .len)
+pub reaches : {v v′ : Seen} {a : ℕ} → Others v v′ a → NotBehind (v′ a) (v a) → (t n i : ℕ) → Upto t n (lastTermSeen (v i)) (v i .len)
+    → Upto t n (lastTermSeen (v′ i)) (v′ i .len)
 reaches {v} o x t n i =
-    replaced o (λ j s. Upto t n (lastTerm (v j)) (v j .len) → Upto t n (lastTerm s) (s .len)) (λ h. upto-trans h x) i (λ ne h. h)
+    replaced o (λ j s. Upto t n (lastTermSeen (v j)) (v j .len) → Upto t n (lastTermSeen s) (s .len)) (λ h. upto-trans h x) i (λ ne h. h)
 
 -- ---- in one view
 
@@ -123,18 +123,18 @@ module _ {𝓠 : Quorums} {v : Seen} {g : Leads} {ack : Acks} (inv : Inv 𝓠 v 
       by-cases (ℕ-discrete u t) (λ e. rw e (o .pair .inside, λ k kn. refl)) (λ ne. inv .kept t n u o (omega arith) z)
 
   -- a server holds an open pair where its last term and length say so
-  pub reach : (t n i : ℕ) → Open 𝓠 v g ack t n → Upto t n (lastTerm (v i)) (v i .len) → Holds n (g .lead t) (v i)
+  pub reach : (t n i : ℕ) → Open 𝓠 v g ack t n → Upto t n (lastTermSeen (v i)) (v i .len) → Holds n (g .lead t) (v i)
   reach t n i o h =
       record { long = long; same = λ k kn. own-lead .along k (omega (arith, long)) ∙ K .1 k kn }
     where
       own-lead : Rooted g (v i .log) (v i .len)
       own-lead = inv .own i
 
-      K : Has n (g .lead t) (g .lead (lastTerm (v i))) (g .size (lastTerm (v i)))
-      K = kept-lead t n (lastTerm (v i)) o (h .le) (omega (arith, own-lead .inside))
+      K : Has n (g .lead t) (g .lead (lastTermSeen (v i))) (g .size (lastTermSeen (v i)))
+      K = kept-lead t n (lastTermSeen (v i)) o (h .le) (omega (arith, own-lead .inside))
 
       -- a log that ends before n ends on lead t, with a term not above t
-      short : v i .len < n → lastTerm (v i) ≤ t
+      short : v i .len < n → lastTermSeen (v i) ≤ t
       short l =
           let e = term-of (own-lead .along (v i .len) (omega arith) ∙ K .1 (v i .len) (omega arith)) in
           omega (arith, inv .tree .below t (v i .len) (omega (arith, o .pair .inside)))

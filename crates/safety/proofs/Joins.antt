@@ -6,7 +6,7 @@ use Prim.Native.Nat.{ℕ, _≤_, _<_}
 use native.Mathlib.Decide.{decLe}
 use native.Mathlib.Omega.{arith}
 use Rattle.safety.specs.Quorum.{Quorums}
-use Rattle.safety.specs.Cluster.{Log, Agree, Seen, Holds, Others}
+use Rattle.safety.specs.Cluster.{LogSeen, Agree, Seen, Holds, Others}
 use Rattle.safety.specs.Steps.{Copies, stays, Quiet, Goes, quiet, Fresh, Walk, stop, go}
 use Rattle.safety.proofs.Leads.{term-of}
 use Rattle.safety.proofs.Inv.{replaced, not-lost, matching, may-copy}
@@ -32,14 +32,14 @@ walk-on x stop = x
 walk-on x (go y h) = go (walk-on x y) h
 
 -- a log that has the first n entries of M and then those of N is N where M and N agree on n
-joined : {L M N : Log} {n m : ℕ} → Agree n M N → Agree n L M → ((k : ℕ) → n < k → k ≤ m → L k ≡ N k) → Agree m L N
+joined : {L M N : LogSeen} {n m : ℕ} → Agree n M N → Agree n L M → ((k : ℕ) → n < k → k ≤ m → L k ≡ N k) → Agree m L N
 joined {n = n} same old new k km = by-cases (decLe k n) (λ y. old k y ∙ same k y) (λ y. new k (omega arith) km)
 
 -- ---- in every view that is reached
 
 module _ {𝓠 : Quorums} {u v : Seen} (f : Fresh u) (w : Walk 𝓠 u v) (a b : ℕ) where
   -- a's log followed by the rest of b's is b's, where a may pull from b: logs with entries of one term at n are the same up to n
-  pub pulled : {L : Log} → v a .len ≤ v b .len → v a .log (v a .len) ≡ v b .log (v a .len) → Agree (v a .len) L (v a .log)
+  pub pulled : {L : LogSeen} → v a .len ≤ v b .len → v a .log (v a .len) ≡ v b .log (v a .len) → Agree (v a .len) L (v a .log)
       → ((k : ℕ) → v a .len < k → k ≤ v b .len → L k ≡ v b .log k) → Agree (v b .len) L (v b .log)
   pulled h e = joined (matching (reached f w .inv) a b (v a .len) (omega arith) h (term-of e))
 

@@ -6,14 +6,14 @@ use mathlib.Core.Bool.{true}
 use Prim.Native.Nat.{ℕ, suc, _≤_, _<_}
 use native.Mathlib.Omega.{arith}
 use Rattle.safety.specs.Quorum.{Quorums}
-use Rattle.safety.specs.Cluster.{Server, Seen, lastTerm, Upto}
+use Rattle.safety.specs.Cluster.{ServerSeen, Seen, lastTermSeen, Upto}
 use Rattle.safety.specs.Steps.{SameLog, Rests}
 use Rattle.safety.proofs.Leads.{Leads}
 use Rattle.safety.proofs.Inv.{Acks, Settled, Open, Inv, settled-holds, still-open, still-behind}
 
 -- the term and the last term of s are t: it may acknowledge its log in t
-abbrev pub In : Server → ℕ → Type 0
-In s t = (s .term ≡ t) × (lastTerm s ≡ t)
+abbrev pub In : ServerSeen → ℕ → Type 0
+In s t = (s .term ≡ t) × (lastTermSeen s ≡ t)
 
 -- terms rise, primaries step down, servers acknowledge what they have, and commit points go to what is settled
 pub record Moves (𝓠 : Quorums) (v v′ : Seen) (ack ack′ : Acks) : Type 0 where
@@ -22,11 +22,11 @@ pub record Moves (𝓠 : Quorums) (v v′ : Seen) (ack ack′ : Acks) : Type 0 w
   pub acksOwn : (i t : ℕ) → (ack′ i t ≤ ack i t) ⊎ (In (v i) t × (ack′ i t ≤ suc (v i .len)))
   pub settled : (i : ℕ) → Settled 𝓠 ack′ (v i) (v′ i .commit)
 
-pub rests-refl : {r : Server} → Rests r r
+pub rests-refl : {r : ServerSeen} → Rests r r
 rests-refl = record { keeps = record { len = refl; log = refl }; raised = omega arith; role = λ p. p; unraised = λ p. omega arith }
 
 -- what is settled in a log stays so where the log is kept
-pub same-settled : {𝓠 : Quorums} {ack : Acks} {r s : Server} {k : ℕ} → SameLog r s → Settled 𝓠 ack r k → Settled 𝓠 ack s k
+pub same-settled : {𝓠 : Quorums} {ack : Acks} {r s : ServerSeen} {k : ℕ} → SameLog r s → Settled 𝓠 ack r k → Settled 𝓠 ack s k
 same-settled e c = settled-holds (record { long = rw (e .len) (c .within); same = λ j jk. rw (e .log) }) c
 
 module _ {𝓠 : Quorums} {v v′ : Seen} {g : Leads} {ack ack′ : Acks} (inv : Inv 𝓠 v g ack) (m : Moves 𝓠 v v′ ack ack′) where
@@ -48,7 +48,7 @@ module _ {𝓠 : Quorums} {v v′ : Seen} {g : Leads} {ack ack′ : Acks} (inv :
   acks′ i t (inr (h, l)) = omega (arith, rw (h .1) at (inv .own i .inside))
 
   held′ : (t n i : ℕ) → Open 𝓠 v′ g ack′ t n → n < ack′ i t → (ack′ i t ≤ ack i t) ⊎ (In (v i) t × (ack′ i t ≤ suc (v i .len)))
-      → Upto t n (lastTerm (v i)) (v i .len)
+      → Upto t n (lastTermSeen (v i)) (v i .len)
   held′ t n i o h (inl k) = inv .held t n i (open-before o) (omega arith)
   held′ t n i o h (inr k) = record { le = omega arith; eq = λ x. omega arith }
 

@@ -5,14 +5,14 @@ use Prim.Native.Nat.{ℕ, suc, _≤_, _<_, max}
 use native.Mathlib.Decide.{decLe, ℕ-discrete}
 use native.Mathlib.Omega.{arith}
 use Rattle.safety.specs.Quorum.{Quorums}
-use Rattle.safety.specs.Cluster.{Server, Seen, lastTerm}
+use Rattle.safety.specs.Cluster.{ServerSeen, Seen, lastTermSeen}
 use Rattle.safety.specs.Steps.{Rests, Backs, Passes}
 use Rattle.safety.proofs.Leads.{Leads, term-of, terms-rise}
 use Rattle.safety.proofs.Inv.{Acks, Settled, Inv, replaced}
 use Rattle.safety.proofs.Moves.{In, moves-inv, rests-refl}
 
-in? : (s : Server) (t : ℕ) → Dec (In s t)
-in? s t = Dec·and (ℕ-discrete (s .term) t) (ℕ-discrete (lastTerm s) t)
+in? : (s : ServerSeen) (t : ℕ) → Dec (In s t)
+in? s t = Dec·and (ℕ-discrete (s .term) t) (ℕ-discrete (lastTermSeen s) t)
 
 -- every server acknowledges the log that it has
 pub acked : Seen → Acks → Acks

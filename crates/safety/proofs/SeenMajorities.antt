@@ -13,7 +13,7 @@ use Rattle.base.proofs.Highest.{highest-passes}
 use Rattle.log.specs.Entries.{entryAt, lastTerm}
 use Rattle.log.specs.Logs.{live, lengthOf}
 use Rattle.log.proofs.Equal.{equal-at}
-use Rattle.cluster.specs.declared.Server.{Server as RecordServer}
+use Rattle.cluster.specs.declared.Server.{Server}
 use Rattle.cluster.specs.declared.Cluster.{Cluster}
 use Rattle.cluster.specs.Ranges.{Fits}
 use Rattle.cluster.specs.Servers.{serverCount, serverAt, votedOf, electedAll}
@@ -25,7 +25,7 @@ use Rattle.wholes.specs.Elects.{notBehind, mayVote, allMayVote, newTerm}
 use Rattle.counts.specs.Advances.{backs, backers, passes, highestPassing, committedOf}
 use Rattle.rules.specs.Rules.{rowOf}
 use Rattle.safety.specs.Quorum.{Quorums, Majority}
-use Rattle.safety.specs.Cluster.{Server, NotBehind}
+use Rattle.safety.specs.Cluster.{ServerSeen, NotBehind}
 use Rattle.safety.specs.Steps.{Voted, Backs, elects}
 use Rattle.safety.specs.Steps as T
 use Rattle.safety.specs.View.{seenEntry, seenServer, view}
@@ -34,7 +34,7 @@ use Rattle.safety.proofs.SeenQuiet.{Sees}
 
 -- ---- kind 1
 
-not-behind : (s t : RecordServer) → notBehind s t ≡ true → NotBehind (seenServer s) (seenServer t)
+not-behind : (s t : Server) → notBehind s t ≡ true → NotBehind (seenServer s) (seenServer t)
 unfolding notBehind
 not-behind s t e = go (or-cases (ltb (lastTerm (live (t .log))) (lastTerm (live (s .log)))) _ e)
   where
@@ -51,7 +51,7 @@ not-behind s t e = go (or-cases (ltb (lastTerm (live (t .log))) (lastTerm (live 
 of-member : (m i : ℕ) (b : Bool) → member m i ≡ true → (not (member m i) || b) ≡ true → b ≡ true
 of-member m i b e h = ⊎-elim (λ x. not-both (member m i) e (not-true (member m i) x)) (λ x. x) (or-cases (not (member m i)) b h)
 
-module _ (a m t i : ℕ) (s : RecordServer) where
+module _ (a m t i : ℕ) (s : Server) where
   voted-in : member m i ≡ true → Voted (seenServer s) (seenServer (votedOf a m t i s)) t
   unfolding votedOf
   voted-in e = rw e (record { keeps = record { len = refl; log = refl }; commit = refl; term = refl })
@@ -66,19 +66,19 @@ module _ (a m t i : ℕ) (s : RecordServer) where
 
 -- ---- kind 7
 
-backing : (s t : RecordServer) (n : ℕ) → backs s n t ≡ true → Backs (seenServer s) n (seenServer t)
+backing : (s t : Server) (n : ℕ) → backs s n t ≡ true → Backs (seenServer s) n (seenServer t)
 unfolding backs
 backing s t n e =
     let q = equal-at _ _ n (and-right (eqb (t .term) (s .term)) _ e) in
     record { term = eqb-true (t .term) (s .term) (and-left _ _ e); within = q .left; entry = ap seenEntry (q .same) }
 
 -- a position that passes, as facts
-record Passing (c : Cluster) (s : RecordServer) (n : ℕ) : Type 0 where
+record Passing (c : Cluster) (s : Server) (n : ℕ) : Type 0 where
   within : n ≤ lengthOf (s .log)
   current : entryAt (live (s .log)) n .term ≡ s .term
   enough : mostOf (serverCount c) (backers c s n) ≡ true
 
-passing : {c : Cluster} {s : RecordServer} {n : ℕ} → passes c s n ≡ true → Passing c s n
+passing : {c : Cluster} {s : Server} {n : ℕ} → passes c s n ≡ true → Passing c s n
 unfolding passes
 passing {c} {s} {n} e =
     let r = and-right (ltb (s .commit) n) _ e in
@@ -104,9 +104,9 @@ module _ {𝓠 : Quorums} (c : Cluster) (f : Fits c) (most : (P : ℕ → Type 0
         });
         low = λ i e. leb-true _ _ (and-left _ _ (may i e));
         ahead = λ i e. not-behind (serverAt c a) (serverAt c i) (and-right (leb (serverAt c i .term) (serverAt c a .term)) _ (may i e));
-        voted = λ i e. subst (λ (s : RecordServer). Voted (view c i) (seenServer s) (suc (serverAt c a .term))) (sym (changed i e))
+        voted = λ i e. subst (λ (s : Server). Voted (view c i) (seenServer s) (suc (serverAt c a .term))) (sym (changed i e))
             (rw risen (voted-in a m (newTerm c a) i (serverAt c i) e));
-        winner = λ i e p. voted-role a m (newTerm c a) i (serverAt c i) e (ap (λ (s : RecordServer). s .primary) (sym (changed i e)) ∙ p);
+        winner = λ i e p. voted-role a m (newTerm c a) i (serverAt c i) e (ap (λ (s : Server). s .primary) (sym (changed i e)) ∙ p);
         others = λ i e. changed-view _ c i (voted-out a m _ i (serverAt c i) e);
       })
     where
@@ -134,9 +134,9 @@ module _ {𝓠 : Quorums} (c : Cluster) (f : Fits c) (most : (P : ℕ → Type 0
         within = p .within;
         current = p .current;
         quorum = most _ (record { members = λ i. backs s n (serverAt c i); enough = p .enough; hold = λ i l e. backing s (serverAt c i) n e });
-        keeps = record { len = ap (λ (x : Server). x .len) q; log = ap (λ (x : Server). x .log) q };
-        term = ap (λ (x : Server). x .term) q;
-        role = ap (λ (x : Server). x .primary) q;
-        commit = ap (λ (x : Server). x .commit) q;
+        keeps = record { len = ap (λ (x : ServerSeen). x .len) q; log = ap (λ (x : ServerSeen). x .log) q };
+        term = ap (λ (x : ServerSeen). x .term) q;
+        role = ap (λ (x : ServerSeen). x .primary) q;
+        commit = ap (λ (x : ServerSeen). x .commit) q;
         others = others c f a (h .0) (committedOf s n);
       })

@@ -9,7 +9,7 @@ use borrow.Author.Tests.{ltb-false, not-true}
 use Rattle.base.proofs.Bools.{and-left, and-right, not-both}
 use Rattle.clock.specs.declared.Time.{Time}
 use Rattle.log.proofs.Equal.{equal-at}
-use Rattle.cluster.specs.declared.Server.{Server as RecordServer}
+use Rattle.cluster.specs.declared.Server.{Server}
 use Rattle.cluster.specs.declared.Cluster.{Cluster}
 use Rattle.cluster.specs.Ranges.{Fits}
 use Rattle.cluster.specs.Servers.{serverCount, serverAt, withServer, clockedOf}
@@ -23,7 +23,7 @@ use Rattle.singles.specs.Restarts.{restartedOf}
 use Rattle.wholes.specs.ClocksAgree.{greatestClock}
 use Rattle.rules.specs.Rules.{rowOf, rulesOf, doneOf}
 use Rattle.safety.specs.Quorum.{Quorums}
-use Rattle.safety.specs.Cluster.{Server}
+use Rattle.safety.specs.Cluster.{ServerSeen}
 use Rattle.safety.specs.Steps.{Settles, stays, restarts, hears, Rests, Goes}
 use Rattle.safety.specs.View.{seenEntry, seenServer, view}
 use Rattle.safety.proofs.Joins.{alone, unchanged}
@@ -34,7 +34,7 @@ abbrev pub Sees : Quorums → Cluster → Step → Type 0
 Sees 𝓠 c s = Clear (rulesOf c s) → Goes 𝓠 (view c) (view (doneOf c s .cluster))
 
 -- the wall clock is not seen
-clocked-seen : (n w i : ℕ) (s : RecordServer) → seenServer (clockedOf n w i s) ≡ seenServer s
+clocked-seen : (n w i : ℕ) (s : Server) → seenServer (clockedOf n w i s) ≡ seenServer s
 unfolding clockedOf
 clocked-seen n w i s = go (ltb i n)
   where
@@ -43,7 +43,7 @@ clocked-seen n w i s = go (ltb i n)
     go false = refl
 
 -- a primary that hears a higher term is none
-heard-rests : (s t : RecordServer) → Rests (seenServer s) (seenServer (heardOf s t))
+heard-rests : (s t : Server) → Rests (seenServer s) (seenServer (heardOf s t))
 unfolding heardOf
 heard-rests s t =
     record {
@@ -65,11 +65,11 @@ heard-settles c a b = go (takesCommit (serverAt c a) (serverAt c b)) refl
     go false e = stays refl
 
 -- a server that is secondary afterwards, whatever its commit point
-lowered : (r : Server) (k : ℕ) → Rests r (record { len = r .len; log = r .log; term = r .term; primary = false; commit = k })
+lowered : (r : ServerSeen) (k : ℕ) → Rests r (record { len = r .len; log = r .log; term = r .term; primary = false; commit = k })
 lowered r k = record { keeps = record { len = refl; log = refl }; raised = omega arith; role = λ p. not-both false p refl; unraised = λ p. refl }
 
 module _ {𝓠 : Quorums} (c : Cluster) (f : Fits c) where
-  quietly : (a : ℕ) → ltb a (serverCount c) ≡ true → (s : RecordServer) → Rests (view c a) (seenServer s) → Settles (view c) a (s .commit)
+  quietly : (a : ℕ) → ltb a (serverCount c) ≡ true → (s : Server) → Rests (view c a) (seenServer s) → Settles (view c) a (s .commit)
       → Goes 𝓠 (view c) (view (withServer c a s))
   quietly a l s r t = alone (others c f a l s) (rw (here c f a l s) (record { rests = r; settles = t }))
 

@@ -18,7 +18,7 @@ use Rattle.log.proofs.Equal.{equal-at}
 use Rattle.log.proofs.Live.{entryAt-zero}
 use Rattle.log.proofs.Positions.{entryAt-joined-low, entryAt-joined-high}
 use Rattle.log.proofs.Tidy.{Tidy, tidy-length, live-joined}
-use Rattle.cluster.specs.declared.Server.{Server as RecordServer}
+use Rattle.cluster.specs.declared.Server.{Server}
 use Rattle.cluster.specs.declared.Cluster.{Cluster}
 use Rattle.cluster.specs.Ranges.{Fits}
 use Rattle.cluster.specs.Servers.{serverCount, serverAt, withServer}
@@ -30,7 +30,7 @@ use Rattle.pairs.specs.Pulls.{tookOf}
 use Rattle.pairs.specs.RollsBack.{common, rollRules}
 use Rattle.rules.specs.Rules.{rowOf, apart}
 use Rattle.safety.specs.Quorum.{Quorums}
-use Rattle.safety.specs.Cluster.{Agree, Server, Seen}
+use Rattle.safety.specs.Cluster.{Agree, ServerSeen, Seen}
 use Rattle.safety.specs.Steps.{Copies, pulls, rollsBack, Goes, takes, Fresh, Walk}
 use Rattle.safety.specs.View.{seenEntry, seenServer, view}
 use Rattle.safety.proofs.Joins.{pulled, no-refusal-9}
@@ -52,16 +52,16 @@ took c f a b l secondary g may len log =
     (record {
       may = may;
       secondary = secondary;
-      len = ap (λ (x : Server). x .len) h ∙ len;
-      log = λ n m. ap (λ (x : Server). x .log n) h ∙ log n m;
-      term = ap (λ (x : Server). x .term) h;
-      role = ap (λ (x : Server). x .primary) h;
-      commit = ap (λ (x : Server). x .commit) h;
+      len = ap (λ (x : ServerSeen). x .len) h ∙ len;
+      log = λ n m. ap (λ (x : ServerSeen). x .log n) h ∙ log n m;
+      term = ap (λ (x : ServerSeen). x .term) h;
+      role = ap (λ (x : ServerSeen). x .primary) h;
+      commit = ap (λ (x : ServerSeen). x .commit) h;
       others = others c f a l s;
     })
 
 -- an empty log's last entry is the root, as is everybody's entry at 0
-last-equal : (s t : RecordServer) → (eqb (lengthOf (s .log)) 0 || equalAt (live (s .log)) (live (t .log)) (lengthOf (s .log))) ≡ true
+last-equal : (s t : Server) → (eqb (lengthOf (s .log)) 0 || equalAt (live (s .log)) (live (t .log)) (lengthOf (s .log))) ≡ true
     → seenServer s .log (lengthOf (s .log)) ≡ seenServer t .log (lengthOf (s .log))
 last-equal s t e = ap seenEntry (go (or-cases (eqb (lengthOf (s .log)) 0) _ e))
   where

@@ -16,16 +16,16 @@ use Rattle.log.specs.Entries.{appliedTime}
 use Rattle.log.specs.Logs.{logLimit, live, lengthOf}
 use Rattle.log.proofs.Positions.{length-more, entryAt-old, entryAt-new}
 use Rattle.log.proofs.Tidy.{tidy-length, live-appended}
-use Rattle.cluster.specs.declared.Server.{Server as RecordServer}
+use Rattle.cluster.specs.declared.Server.{Server}
 use Rattle.cluster.specs.declared.Cluster.{Cluster}
 use Rattle.cluster.specs.Ranges.{Fits, FitsServer}
 use Rattle.cluster.specs.Servers.{serverCount, serverAt}
 use Rattle.cluster.proofs.Good.{Good, ServerGood}
 use Rattle.steps.specs.declared.Step.the-variants.{Writes}
-use Rattle.singles.specs.Writes.{ticks, tickTime, entryOf, wroteOf}
+use Rattle.singles.specs.Writes.{ticks, tickTime, newEntry, wroteOf}
 use Rattle.rules.specs.Rules.{rowOf}
 use Rattle.safety.specs.Quorum.{Quorums}
-use Rattle.safety.specs.Cluster.{Server}
+use Rattle.safety.specs.Cluster.{ServerSeen}
 use Rattle.safety.specs.Steps.{writes}
 use Rattle.safety.specs.Time.{stamp}
 use Rattle.safety.specs.View.{seenEntry}
@@ -38,7 +38,7 @@ ticked-to (To t) h = refl
 ticked-to AtLimit h = not-both false h refl
 
 -- the tick is past the cluster time, which is not before the applied time
-later-tick : (s : RecordServer) → FitsServer s → ServerGood s → ticks (tickOf (s .wall) (s .time)) ≡ true
+later-tick : (s : Server) → FitsServer s → ServerGood s → ticks (tickOf (s .wall) (s .time)) ≡ true
     → stamp (appliedTime (live (s .log))) < stamp (tickTime (tickOf (s .wall) (s .time)))
 later-tick s f g h =
     before-stamp _ _ (fits-time (s .log) (f .log) (lengthOf (s .log)))
@@ -49,7 +49,7 @@ unfolding rowOf wroteOf
 sees-write c f g a key value h =
     let s = serverAt c a in
     let t = tickTime (tickOf (s .wall) (s .time)) in
-    let e = entryOf s key value t in
+    let e = newEntry s key value t in
     let r = h .1 .1 .1 in
     let k = g .counted a (omega (arith, ltb-true a (serverCount c) (h .0))) in
     let room = ltb-true (lengthOf (s .log)) logLimit (r .1 .0) in
@@ -60,11 +60,11 @@ sees-write c f g a key value h =
       primary = r .0;
       current = refl;
       later = later-tick s (f .each a (in-range c a (h .0))) k (r .1 .1 .0);
-      len = ap (λ (x : Server). x .len) q ∙ ap length l ∙ length-more (live (s .log)) e;
-      kept = λ n m. ap (λ (x : Server). x .log n) q ∙ ap seenEntry (rw l (entryAt-old (live (s .log)) e n m));
-      entry = ap (λ (x : Server). x .log (suc (lengthOf (s .log)))) q ∙ ap seenEntry (rw l (entryAt-new (live (s .log)) e));
-      term = ap (λ (x : Server). x .term) q;
-      role = ap (λ (x : Server). x .primary) q;
-      commit = ap (λ (x : Server). x .commit) q;
+      len = ap (λ (x : ServerSeen). x .len) q ∙ ap length l ∙ length-more (live (s .log)) e;
+      kept = λ n m. ap (λ (x : ServerSeen). x .log n) q ∙ ap seenEntry (rw l (entryAt-old (live (s .log)) e n m));
+      entry = ap (λ (x : ServerSeen). x .log (suc (lengthOf (s .log)))) q ∙ ap seenEntry (rw l (entryAt-new (live (s .log)) e));
+      term = ap (λ (x : ServerSeen). x .term) q;
+      role = ap (λ (x : ServerSeen). x .primary) q;
+      commit = ap (λ (x : ServerSeen). x .commit) q;
       others = others c f a (h .0) (wroteOf s key value t);
     })

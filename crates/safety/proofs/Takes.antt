@@ -7,7 +7,7 @@ use Prim.Native.Nat.{ℕ, _≤_, max}
 use native.Mathlib.Decide.{decLe}
 use native.Mathlib.Omega.{arith}
 use Rattle.safety.specs.Quorum.{Quorums}
-use Rattle.safety.specs.Cluster.{Log, Seen, lastTerm, Holds, NotBehind}
+use Rattle.safety.specs.Cluster.{LogSeen, Seen, lastTermSeen, Holds, NotBehind}
 use Rattle.safety.specs.Steps.{Takes}
 use Rattle.safety.proofs.Leads.{Leads, Rooted, term-of, rooted-agree}
 use Rattle.safety.proofs.Inv.{Acks, Settled, Open, Inv, settled-holds, still-open, replaced, reaches}
@@ -17,14 +17,14 @@ module _ {𝓠 : Quorums} {v v′ : Seen} {g : Leads} {ack : Acks} (inv : Inv �
   raised : (i : ℕ) → v i .term ≤ v′ i .term
   raised i = replaced (h .others) (λ j s. v j .term ≤ s .term) (omega (arith, h .term)) i (λ ne. omega arith)
 
-  last-a : lastTerm (v′ a) ≡ lastTerm (v b)
+  last-a : lastTermSeen (v′ a) ≡ lastTermSeen (v b)
   last-a = rw (h .len) (term-of (h .log (v b .len) (omega arith)))
 
   -- what b holds a holds afterwards
-  handed : {k : ℕ} {L : Log} → Holds k L (v b) → Holds k L (v′ a)
+  handed : {k : ℕ} {L : LogSeen} → Holds k L (v b) → Holds k L (v′ a)
   handed H = record { long = omega (arith, H .long, h .len); same = λ j jk. h .log j (omega (arith, H .long)) ∙ H .same j jk }
 
-  terms-a : lastTerm (v′ a) ≤ v′ a .term
+  terms-a : lastTermSeen (v′ a) ≤ v′ a .term
   terms-a = omega (arith, last-a, h .term, inv .terms b)
 
   own-a : Rooted g (v′ a .log) (v′ a .len)
@@ -62,7 +62,7 @@ module _ {𝓠 : Quorums} {v v′ : Seen} {g : Leads} {ack : Acks} (inv : Inv �
         tree = inv .tree;
         behind = still-behind inv v′ raised;
         own = λ i. replaced (h .others) (λ j s. Rooted g (s .log) (s .len)) own-a i (λ ne. inv .own i);
-        terms = λ i. replaced (h .others) (λ j s. lastTerm s ≤ s .term) terms-a i (λ ne. inv .terms i);
+        terms = λ i. replaced (h .others) (λ j s. lastTermSeen s ≤ s .term) terms-a i (λ ne. inv .terms i);
         rule = λ i p. rw (primaries i p) (inv .rule i (rw (primaries i p) at p));
         one = λ i j p q. rw (primaries i p, primaries j q) (inv .one i j (rw (primaries i p) at p) (rw (primaries j q) at q));
         acks = inv .acks;

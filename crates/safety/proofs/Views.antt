@@ -14,21 +14,21 @@ use Rattle.base.specs.Lists.{each}
 use Rattle.base.proofs.Each.{length-eachFrom}
 use Rattle.base.proofs.Facts.{lt-or-le}
 use Rattle.clock.specs.Ranges.{FitsTime}
-use Rattle.log.specs.declared.Entry.{Entry as LogEntry}
+use Rattle.log.specs.declared.Entry.{Entry}
 use Rattle.log.specs.declared.Log.{Log}
 use Rattle.log.specs.Entries.{zeroEntry, entryAt, commonBeginning, isBeginning}
 use Rattle.log.specs.Logs.{logLimit, live, lengthOf}
 use Rattle.log.specs.Ranges.{FitsLog}
 use Rattle.log.proofs.Common.{common-le, common-longest}
 use Rattle.log.proofs.Positions.{same-first}
-use Rattle.cluster.specs.declared.Server.{Server as RecordServer}
+use Rattle.cluster.specs.declared.Server.{Server}
 use Rattle.cluster.specs.declared.Cluster.{Cluster}
 use Rattle.cluster.specs.Ranges.{Fits}
 use Rattle.cluster.specs.Servers.{mostServers, pastServer, zeroCluster, startedOf, freshCluster, serverCount, serverAt, withServer}
 use Rattle.cluster.proofs.Fresh.{fresh-at, fresh-past}
 use Rattle.cluster.proofs.Changed.{replaced-here, replaced-others, changed-at}
 use Rattle.safety.specs.Quorum.{Quorums}
-use Rattle.safety.specs.Cluster.{Entry, Server, Holds, Others}
+use Rattle.safety.specs.Cluster.{EntrySeen, ServerSeen, Holds, Others}
 use Rattle.safety.specs.Steps.{Goes, Fresh}
 use Rattle.safety.specs.View.{seenEntry, seenServer, view}
 use Rattle.safety.proofs.Joins.{unchanged}
@@ -40,7 +40,7 @@ use Rattle.safety.proofs.Time.{stamp-same}
 pub in-range : (c : Cluster) (a : ℕ) → ltb a (serverCount c) ≡ true → a < mostServers
 in-range c a l = omega (arith, ltb-true a (serverCount c) l)
 
-module _ (c : Cluster) (f : Fits c) (a : ℕ) (l : ltb a (serverCount c) ≡ true) (s : RecordServer) where
+module _ (c : Cluster) (f : Fits c) (a : ℕ) (l : ltb a (serverCount c) ≡ true) (s : Server) where
   pub here : view (withServer c a s) a ≡ seenServer s
   here = ap seenServer (replaced-here c a s (omega (arith, f .slots, in-range c a l)))
 
@@ -52,14 +52,14 @@ module _ (c : Cluster) (f : Fits c) (a : ℕ) (l : ltb a (serverCount c) ≡ tru
   not-shown e = unchanged (λ i. by-cases (ℕ-discrete i a) (λ q. rw q (here ∙ e)) (others i))
 
 -- all servers changed: those past the seventh are none
-changed-past : (g : ℕ → RecordServer → RecordServer) (c : Cluster) (i : ℕ) → length (c .servers) ≤ i
+changed-past : (g : ℕ → Server → Server) (c : Cluster) (i : ℕ) → length (c .servers) ≤ i
     → serverAt (record { count = c .count; servers = each g (c .servers) }) i ≡ serverAt c i
 changed-past g c i h =
     List·getD-eq-default (each g (c .servers)) pastServer (omega (arith, length-eachFrom g 0 (c .servers)))
     ∙ sym (List·getD-eq-default (c .servers) pastServer h)
 
 -- a change of all servers that the view does not show at i
-pub changed-view : (g : ℕ → RecordServer → RecordServer) (c : Cluster) (i : ℕ) → seenServer (g i (serverAt c i)) ≡ view c i
+pub changed-view : (g : ℕ → Server → Server) (c : Cluster) (i : ℕ) → seenServer (g i (serverAt c i)) ≡ view c i
     → view (record { count = c .count; servers = each g (c .servers) }) i ≡ view c i
 changed-view g c i e =
     ⊎-elim (λ h. ap seenServer (changed-at g c i h) ∙ e) (λ h. ap seenServer (changed-past g c i h)) (lt-or-le i (length (c .servers)))
@@ -80,11 +80,11 @@ pub fresh-seen : (n : ℕ) → Fresh (view (freshCluster n))
 unfolding entryAt
 fresh-seen n =
     record {
-      len = λ i. ap (λ (s : Server). s .len) (fresh-view n i);
+      len = λ i. ap (λ (s : ServerSeen). s .len) (fresh-view n i);
       log = λ i. refl;
-      term = λ i. ap (λ (s : Server). s .term) (fresh-view n i);
-      role = λ i. ap (λ (s : Server). s .primary) (fresh-view n i);
-      commit = λ i. ap (λ (s : Server). s .commit) (fresh-view n i);
+      term = λ i. ap (λ (s : ServerSeen). s .term) (fresh-view n i);
+      role = λ i. ap (λ (s : ServerSeen). s .primary) (fresh-view n i);
+      commit = λ i. ap (λ (s : ServerSeen). s .commit) (fresh-view n i);
     }
 
 -- ---- entries
@@ -107,14 +107,14 @@ fits-time g f (suc i) =
     (lt-or-le i (g .len))
 
 -- entries whose times fit are equal where they look equal
-pub same-entry : (d e : LogEntry) → FitsTime (d .time) → FitsTime (e .time) → seenEntry d ≡ seenEntry e → d ≡ e
+pub same-entry : (d e : Entry) → FitsTime (d .time) → FitsTime (e .time) → seenEntry d ≡ seenEntry e → d ≡ e
 same-entry d e f g q =
-    let times = stamp-same (d .time) (e .time) f g (ap (λ (x : Entry). x .time) q) in
+    let times = stamp-same (d .time) (e .time) f g (ap (λ (x : EntrySeen). x .time) q) in
     λ i. record { term = q i .term; key = q i .key; value = q i .value; time = times i }
 
 -- ---- the first entries of s, which t holds
 
-module _ (s t : RecordServer) (f : FitsLog (s .log)) (g : FitsLog (t .log)) {k : ℕ} (long : k ≤ lengthOf (s .log)) (h : Holds k (seenServer s .log) (seenServer t)) where
+module _ (s t : Server) (f : FitsLog (s .log)) (g : FitsLog (t .log)) {k : ℕ} (long : k ≤ lengthOf (s .log)) (h : Holds k (seenServer s .log) (seenServer t)) where
   -- position by position
   holds-at : (n : ℕ) → n ≤ k → entryAt (live (t .log)) n ≡ entryAt (live (s .log)) n
   holds-at n l = same-entry _ _ (fits-time (t .log) g n) (fits-time (s .log) f n) (h .same n l)

@@ -7,14 +7,14 @@ use Prim.Native.Nat.{ℕ, suc, _≤_, _<_}
 use native.Mathlib.Decide.{decLe, ℕ-discrete}
 use native.Mathlib.Omega.{arith}
 use Rattle.safety.specs.Quorum.{Quorums}
-use Rattle.safety.specs.Cluster.{Entry, Seen, lastTerm, NotBehind}
+use Rattle.safety.specs.Cluster.{EntrySeen, Seen, lastTermSeen, NotBehind}
 use Rattle.safety.specs.Steps.{Writes}
 use Rattle.safety.proofs.Leads.{Leads, Rooted, rooted-agree, terms-rise, times-rise, log-begins, Grown, grown-rooted}
 use Rattle.safety.proofs.Leads.{Leading, led, led-lead, led-own, led-grown, led-rooted, led-tree}
 use Rattle.safety.proofs.Inv.{Acks, Settled, Open, LogOf, Has, Inv, settled-holds, acknowledged, replaced, reaches}
 use Rattle.safety.proofs.Inv.{rooted-at, still-behind, open-before}
 
-module _ {𝓠 : Quorums} {v v′ : Seen} {g : Leads} {ack : Acks} (inv : Inv 𝓠 v g ack) {a : ℕ} {e : Entry} (w : Writes v v′ a e) where
+module _ {𝓠 : Quorums} {v v′ : Seen} {g : Leads} {ack : Acks} (inv : Inv 𝓠 v g ack) {a : ℕ} {e : EntrySeen} (w : Writes v v′ a e) where
   -- the term of the entry
   abbrev t : ℕ
   t = v a .term
@@ -27,7 +27,7 @@ module _ {𝓠 : Quorums} {v v′ : Seen} {g : Leads} {ack : Acks} (inv : Inv �
   size-t = inv .rule a (w .primary) .0
 
   -- what holds of a's old entries and of the new one holds of all
-  along : (n : ℕ) (P : Entry → Type 0) → (n ≤ v a .len → P (v a .log n)) → (n ≡ suc (v a .len) → P e)
+  along : (n : ℕ) (P : EntrySeen → Type 0) → (n ≤ v a .len → P (v a .log n)) → (n ≡ suc (v a .len) → P e)
       → n ≤ v′ a .len → P (v′ a .log n)
   along n P x y h = by-cases (decLe n (v a .len)) (λ k. rw (w .kept n k) (x k)) (λ k. last (omega (arith, w .len)))
     where
@@ -97,7 +97,7 @@ module _ {𝓠 : Quorums} {v v′ : Seen} {g : Leads} {ack : Acks} (inv : Inv �
       later-s : (k : ℕ) → k ≤ n → g′ .lead s k ≡ g .lead s k
       later-s k kn = writes-grown .same s k (omega (arith, was .pair .inside))
 
-  last-a : lastTerm (v′ a) ≡ t
+  last-a : lastTermSeen (v′ a) ≡ t
   last-a = rw (w .len, w .entry) (w .current)
 
   -- a's log has only become longer
@@ -128,7 +128,7 @@ module _ {𝓠 : Quorums} {v v′ : Seen} {g : Leads} {ack : Acks} (inv : Inv �
         tree = led-tree leading (inv .tree);
         behind = behind′;
         own = λ i. replaced (w .others) (λ j s. Rooted g′ (s .log) (s .len)) own-a i (λ ne. grown-rooted writes-grown (inv .own i));
-        terms = λ i. replaced (w .others) (λ j s. lastTerm s ≤ s .term) (omega (arith, last-a, w .term)) i (λ ne. inv .terms i);
+        terms = λ i. replaced (w .others) (λ j s. lastTermSeen s ≤ s .term) (omega (arith, last-a, w .term)) i (λ ne. inv .terms i);
         rule = λ i p. rw (terms-same i) (rule′ i (rw (roles-same i) at p));
         one = λ i j. rw (terms-same i, terms-same j, roles-same i, roles-same j) (inv .one i j);
         acks = λ i u. omega (arith, inv .acks i u, writes-grown .bigger u);

@@ -4,15 +4,15 @@ use mathlib.Core.Path.{_≡_}
 use mathlib.Core.Bool.{Bool, true, false}
 use Prim.Native.Nat.{ℕ, suc, _≤_, _<_, max}
 use Rattle.safety.specs.Quorum.{Quorums}
-use Rattle.safety.specs.Cluster.{Entry, root, Agree, Server, Seen, lastTerm, appliedTime, NotBehind, Others}
+use Rattle.safety.specs.Cluster.{EntrySeen, root, Agree, ServerSeen, Seen, lastTermSeen, appliedTimeSeen, NotBehind, Others}
 
 -- the log of s is still that of r
-pub record SameLog (r s : Server) : Type 0 where
+pub record SameLog (r s : ServerSeen) : Type 0 where
   pub len : s .len ≡ r .len
   pub log : s .log ≡ r .log
 
 -- a member of an election: r before, s after, where term t is won
-pub record Voted (r s : Server) (t : ℕ) : Type 0 where
+pub record Voted (r s : ServerSeen) (t : ℕ) : Type 0 where
   pub keeps : SameLog r s
   pub commit : s .commit ≡ r .commit
   pub term : s .term ≡ t
@@ -27,10 +27,10 @@ pub record Elects (𝓠 : Quorums) (v v′ : Seen) (a : ℕ) (members : ℕ → 
   pub others : (i : ℕ) → members i ≡ false → v′ i ≡ v i
 
 -- kind 6: a writes e
-pub record Writes (v v′ : Seen) (a : ℕ) (e : Entry) : Type 0 where
+pub record Writes (v v′ : Seen) (a : ℕ) (e : EntrySeen) : Type 0 where
   pub primary : v a .primary ≡ true
   pub current : e .term ≡ v a .term
-  pub later : appliedTime (v a) < e .time
+  pub later : appliedTimeSeen (v a) < e .time
   pub len : v′ a .len ≡ suc (v a .len)
   pub kept : Agree (v a .len) (v′ a .log) (v a .log)
   pub entry : v′ a .log (suc (v a .len)) ≡ e
@@ -40,9 +40,9 @@ pub record Writes (v v′ : Seen) (a : ℕ) (e : Entry) : Type 0 where
   pub others : Others v v′ a
 
 -- kinds 4 and 5: when s may take r's log; the root stands for the last entry of an empty log
-pub data Copies (s r : Server) : Type 0 where
+pub data Copies (s r : ServerSeen) : Type 0 where
   pulls : s .len ≤ r .len → s .log (s .len) ≡ r .log (s .len) → Copies s r
-  rollsBack : lastTerm s < lastTerm r → Copies s r
+  rollsBack : lastTermSeen s < lastTermSeen r → Copies s r
 
 -- kinds 4 and 5: a takes b's log, which is what both rows leave
 pub record Takes (v v′ : Seen) (a b : ℕ) : Type 0 where
@@ -62,19 +62,19 @@ pub data Settles (v : Seen) (i k : ℕ) : Type 0 where
   hears : (b : ℕ) → k ≡ v b .commit → k ≤ v i .len → v i .log k ≡ v b .log k → Settles v i k
 
 -- s is r afterwards: its log is kept, and where its term has risen it is no primary
-pub record Rests (r s : Server) : Type 0 where
+pub record Rests (r s : ServerSeen) : Type 0 where
   pub keeps : SameLog r s
   pub raised : r .term ≤ s .term
   pub role : s .primary ≡ true → r .primary ≡ true
   pub unraised : s .primary ≡ true → s .term ≡ r .term
 
 -- kinds 2, 3 and 9, and those that the view does not show: s is server i afterwards
-pub record Quiet (v : Seen) (i : ℕ) (s : Server) : Type 0 where
+pub record Quiet (v : Seen) (i : ℕ) (s : ServerSeen) : Type 0 where
   pub rests : Rests (v i) s
   pub settles : Settles v i (s .commit)
 
 -- kind 7: s counts for position n of r's log
-pub record Backs (r : Server) (n : ℕ) (s : Server) : Type 0 where
+pub record Backs (r : ServerSeen) (n : ℕ) (s : ServerSeen) : Type 0 where
   pub term : s .term ≡ r .term
   pub within : n ≤ s .len
   pub entry : s .log n ≡ r .log n
@@ -92,7 +92,7 @@ pub record Passes (𝓠 : Quorums) (v v′ : Seen) (a n : ℕ) : Type 0 where
 
 pub data Goes (𝓠 : Quorums) (v v′ : Seen) : Type 0 where
   elects : (a : ℕ) (members : ℕ → Bool) → Elects 𝓠 v v′ a members → Goes 𝓠 v v′
-  writes : (a : ℕ) (e : Entry) → Writes v v′ a e → Goes 𝓠 v v′
+  writes : (a : ℕ) (e : EntrySeen) → Writes v v′ a e → Goes 𝓠 v v′
   takes : (a b : ℕ) → Takes v v′ a b → Goes 𝓠 v v′
   quiet : ((i : ℕ) → Quiet v i (v′ i)) → Goes 𝓠 v v′
   passes : (a n : ℕ) → Passes 𝓠 v v′ a n → Goes 𝓠 v v′

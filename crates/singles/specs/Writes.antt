@@ -37,13 +37,13 @@ writeRules s key value =
     ∷ []
 
 -- one entry with a's term and the new cluster time t
-abbrev pub entryOf : Server → ℕ → ℕ → Time → Entry
-entryOf s key value t = record { term = s .term; key = key; value = value; time = t }
+abbrev pub newEntry : Server → ℕ → ℕ → Time → Entry
+newEntry s key value t = record { term = s .term; key = key; value = value; time = t }
 
 unfoldable pub wroteOf : Server → ℕ → ℕ → Time → Server
 wroteOf s key value t =
     record {
-      log = appended (s .log) (entryOf s key value t);
+      log = appended (s .log) (newEntry s key value t);
       term = s .term;
       primary = s .primary;
       commit = s .commit;
@@ -54,7 +54,7 @@ wroteOf s key value t =
 -- the answer is the entry's position, term and time
 abbrev pub writtenOf : Server → ℕ → ℕ → Time → Stepped
 writtenOf s key value t =
-    record { server = wroteOf s key value t; answer = A.Entry (lengthOf (appended (s .log) (entryOf s key value t))) (s .term) t }
+    record { server = wroteOf s key value t; answer = A.Entry (lengthOf (appended (s .log) (newEntry s key value t))) (s .term) t }
 
 abbrev pub writeDone : Server → ℕ → ℕ → Stepped
 writeDone s key value = writtenOf s key value (tickTime (tickOf (s .wall) (s .time)))

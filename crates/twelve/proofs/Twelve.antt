@@ -6,8 +6,8 @@ use Rattle.clock.specs.Times.{isBefore, sameTime, tickOf}
 use Rattle.log.specs.Entries.{sameEntry, entryAt, equalAt, commonBeginning}
 use Rattle.cluster.specs.Sets.{member}
 use Rattle.counts.specs.Advances.{backs, passes, highestPassing}
-use Rattle.twelve.specs.Table.{all, holds, table}
+use Rattle.twelve.specs.Table.{all, rowHolds, table}
 
-pub all-hold : all holds table ≡ true
-unfolding holds count highest isBefore sameTime tickOf sameEntry entryAt equalAt commonBeginning member backs passes highestPassing
+pub all-hold : all rowHolds table ≡ true
+unfolding rowHolds count highest isBefore sameTime tickOf sameEntry entryAt equalAt commonBeginning member backs passes highestPassing
 all-hold = refl

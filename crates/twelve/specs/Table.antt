@@ -94,16 +94,16 @@ abbrev pub verdict : Rules → ℕ
 verdict rules = decided refusalNumber 0 rules
 
 -- what is expected is what the definitions give
-unfoldable pub holds : Row → Bool
-holds (majority m n b) = Bool·beq (isMajority m n) b
-holds (before s t b) = Bool·beq (isBefore (timeOf s) (timeOf t)) b
-holds (tick t wall u) = ticksTo (tickOf wall (timeOf t)) (timeOf u)
-holds (write t wall n) = eqb (verdict (writeRules (writerOf (timeOf t) wall) 0 1)) n
-holds (share xs ys n) = eqb (commonBeginning (live (logOf xs)) (live (logOf ys))) n
-holds (pull xs ys n) = eqb (verdict (pullRules (secondaryOf xs) (secondaryOf ys))) n
-holds (rollBack xs ys n) = eqb (verdict (rollRules (secondaryOf xs) (secondaryOf ys))) n
-holds (passing h hs n) = eqb (highestPassing (ledBy h hs) (serverAt (ledBy h hs) 0)) n
-holds (both r s) = holds r && holds s
+unfoldable pub rowHolds : Row → Bool
+rowHolds (majority m n b) = Bool·beq (isMajority m n) b
+rowHolds (before s t b) = Bool·beq (isBefore (timeOf s) (timeOf t)) b
+rowHolds (tick t wall u) = ticksTo (tickOf wall (timeOf t)) (timeOf u)
+rowHolds (write t wall n) = eqb (verdict (writeRules (writerOf (timeOf t) wall) 0 1)) n
+rowHolds (share xs ys n) = eqb (commonBeginning (live (logOf xs)) (live (logOf ys))) n
+rowHolds (pull xs ys n) = eqb (verdict (pullRules (secondaryOf xs) (secondaryOf ys))) n
+rowHolds (rollBack xs ys n) = eqb (verdict (rollRules (secondaryOf xs) (secondaryOf ys))) n
+rowHolds (passing h hs n) = eqb (highestPassing (ledBy h hs) (serverAt (ledBy h hs) 0)) n
+rowHolds (both r s) = rowHolds r && rowHolds s
 
 -- every row passes a test
 abbrev pub all : (Row → Bool) → List Row → Bool
@@ -134,7 +134,7 @@ table =
     ∷ both (pull (1 ∷ []) (1 ∷ 2 ∷ []) 0) (pull (2 ∷ []) (1 ∷ 3 ∷ []) 5)
     -- (11) [1,2] rolls back to [1,3], and [1] doesn't
     ∷ both (rollBack (1 ∷ 2 ∷ []) (1 ∷ 3 ∷ []) 0) (rollBack (1 ∷ []) (1 ∷ 3 ∷ []) 5)
-    -- (12) a primary of term 4 with [1,2,4] in a cluster of 5, where two others of term 4 hold [1,2] and nobody else holds
+    -- (12) a primary of term 4 with [1,2,4] in a cluster of 5, where two others of term 4 hold [1,2] and nobody else rowHolds
     -- position 3: nothing passes
     ∷ passing (4, 1 ∷ 2 ∷ 4 ∷ []) ((4, 1 ∷ 2 ∷ []) ∷ (4, 1 ∷ 2 ∷ []) ∷ (3, 1 ∷ []) ∷ (3, []) ∷ []) 0
     ∷ []

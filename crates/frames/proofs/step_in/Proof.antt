@@ -1,7 +1,7 @@
 -- `frames::step_in` meets its contract. Assumes nothing.
 use Rattle.frames.specs.declared.ReadStep.the-variants.{NoFrame}
 use Rattle.frames.specs.Layout.{frameOf}
-use Rattle.frames.specs.Kinds.{stepOf}
+use Rattle.frames.specs.Kinds.{stepOfFrame}
 use Rattle.frames.specs.Steps.{stepIn}
 use Rattle.frames.proofs.Unknown.{unknown-in}
 use Rattle.base.proofs.Bools.{said-no, said-yes}
@@ -27,7 +27,7 @@ returns-2 : tie.Need-returns-2
 unfolding stepIn
 returns-2 c =
     let b = c .before .before .before .args .t1 in
-    sym (ap (λ (t : Bool). cond t (stepOf (frameOf b)) NoFrame) (said-no _ _ (c .before .is-clean .ensures) (c .if2 .taken)))
+    sym (ap (λ (t : Bool). cond t (stepOfFrame (frameOf b)) NoFrame) (said-no _ _ (c .before .is-clean .ensures) (c .if2 .taken)))
 
 frame-of-requires : tie.Need-frame-of-requires
 frame-of-requires c κs = search needs
@@ -40,8 +40,8 @@ unfolding stepIn
 returns-3 c =
     let d = c .before .before in
     let b = d .before .before .before .args .t1 in
-    c .step-of .ensures ∙ ap stepOf (c .before .frame-of .ensures)
-    ∙ sym (ap (λ (t : Bool). cond t (stepOf (frameOf b)) NoFrame) (said-yes _ _ (d .before .is-clean .ensures) (d .if2 .left)))
+    c .step-of .ensures ∙ ap stepOfFrame (c .before .frame-of .ensures)
+    ∙ sym (ap (λ (t : Bool). cond t (stepOfFrame (frameOf b)) NoFrame) (said-yes _ _ (d .before .is-clean .ensures) (d .if2 .left)))
 
 pub step-in-spec : {M : Type 1} → statement M
 step-in-spec =

@@ -1,7 +1,7 @@
 -- `frames::step_of` meets its contract. Assumes nothing.
 use Rattle.steps.specs.declared.Frame.{Frame}
 use Rattle.frames.specs.declared.ReadStep.the-variants.{NoFrame}
-use Rattle.frames.specs.Kinds.{kinds, stepsOf, stepOf}
+use Rattle.frames.specs.Kinds.{kinds, stepsOf, stepOfFrame}
 use Rattle.frames.proofs.Unknown.{unknown-kind}
 use native.Mathlib.Omega.{arith}
 use lib.ListN.{getD}
@@ -20,8 +20,8 @@ unfolding NoneBelow
 above k zero h = omega arith
 above k (suc n) h = let l : n ≤ k = above k n (h .0) in omega (arith, h .1)
 
-at-kind : (f : Frame) (n : ℕ) → f .kind ≡ n → getD (stepsOf f) n NoFrame ≡ stepOf f
-unfolding stepOf
+at-kind : (f : Frame) (n : ℕ) → f .kind ≡ n → getD (stepsOf f) n NoFrame ≡ stepOfFrame f
+unfolding stepOfFrame
 at-kind f n e = sym (ap (λ (k : ℕ). getD (stepsOf f) k NoFrame) e)
 
 returns : tie.Need-returns

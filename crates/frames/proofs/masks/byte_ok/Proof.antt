@@ -1,7 +1,7 @@
 -- `frames::masks::byte_ok` meets its contract. Assumes nothing.
 use Rattle.words.specs.Words.{highOf, lowOf}
 use Rattle.frames.specs.Layout.{bytesOfFrame}
-use Rattle.frames.specs.Kinds.{stepOf, isTable}
+use Rattle.frames.specs.Kinds.{stepOfFrame, isTable}
 use Rattle.base.specs.Numbers.{every}
 use lib.Dec.{eqb}
 use mathlib.Core.Bool.{Bool, true, cond}
@@ -12,7 +12,7 @@ use Rattle.frames.proofs.masks.byte_ok.Tie as tie
 
 -- the table keeps its rule: one test over all kinds and bytes, which antt computes
 must-be-zero-requires : tie.Need-must-be-zero-requires
-unfolding isTable every stepOf bytesOfFrame highOf lowOf
+unfolding isTable every stepOfFrame bytesOfFrame highOf lowOf
 must-be-zero-requires c κs = (refl, search needs, search needs)
 
 returns : tie.Need-returns
