@@ -20,7 +20,7 @@ use Rattle.replay.specs.declared.Reader.{Reader}
 use Rattle.replay.specs.declared.Session.{Session}
 use Rattle.replay.specs.declared.Fed.{Fed}
 use Rattle.replay.specs.Texts.{lineFeed, onLine, lines, answerTo, lineOf, answersTo, recordAfter, answers, leaves}
-use Rattle.replay.specs.Pieces.{kept, answerLine, tooLong, freshReader, begun, lineHeld, pushOf, after, said, runs, says, taking, isEmpty, ending, ended, fedOf}
+use Rattle.replay.specs.Pieces.{kept, answerLine, tooLong, freshReader, begun, lineHeld, pushOf, after, said, runs, says, taking, isEmpty, ending, ended, fedOf, together, runsAll, saysAll}
 
 -- bytes with no line feed among them
 pub data Plain : List ℕ → Type 0 where
@@ -137,18 +137,7 @@ says-append s [] y = refl
 says-append s (b ∷ x) y =
     ap (λ (l : List ℕ). said s b ++ l) (says-append (after s b) x y) ∙ sym (append-assoc (said s b) (says (after s b) x) (says (runs (after s b) x) y))
 
-abbrev pub together : List (List ℕ) → List ℕ
-together [] = []
-together (x ∷ xs) = x ++ together xs
-
-abbrev pub runsAll : Session → List (List ℕ) → Session
-runsAll s [] = s
-runsAll s (x ∷ xs) = runsAll (runs s x) xs
-
-abbrev pub saysAll : Session → List (List ℕ) → List ℕ
-saysAll s [] = []
-saysAll s (x ∷ xs) = says s x ++ saysAll (runs s x) xs
-
+-- pieces, all in turn
 runs-all : (s : Session) (xs : List (List ℕ)) → runsAll s xs ≡ runs s (together xs)
 runs-all s [] = refl
 runs-all s (x ∷ xs) = runs-all (runs s x) xs ∙ sym (runs-append s x (together xs))
@@ -172,7 +161,7 @@ pub line-long : (a : Answer) → length (lineOf a) ≡ answerLine
 unfolding lineOf
 line-long a = length-append (writeAnswer a) (lineFeed ∷ []) ∙ ap (λ (k : ℕ). k + 1) (answer-line-length (tellingOf a))
 
-said-short : (s : Session) (b : ℕ) → length (said s b) ≤ answerLine
+pub said-short : (s : Session) (b : ℕ) → length (said s b) ≤ answerLine
 unfolding said
 said-short s b = go (eqb b lineFeed)
   where

@@ -60,6 +60,19 @@ abbrev pub says : Session → List ℕ → List ℕ
 says s [] = []
 says s (b ∷ bs) = said s b ++ says (after s b) bs
 
+-- pieces in turn, and the text that they are
+abbrev pub together : List (List ℕ) → List ℕ
+together [] = []
+together (x ∷ xs) = x ++ together xs
+
+abbrev pub runsAll : Session → List (List ℕ) → Session
+runsAll s [] = s
+runsAll s (x ∷ xs) = runsAll (runs s x) xs
+
+abbrev pub saysAll : Session → List (List ℕ) → List ℕ
+saysAll s [] = []
+saysAll s (x ∷ xs) = says s x ++ saysAll (runs s x) xs
+
 -- how many bytes are taken while there is room for an answer line
 abbrev pub taking : Session → List ℕ → ℕ → ℕ
 taking s [] room = 0

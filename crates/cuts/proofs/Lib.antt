@@ -1,2 +1,0 @@
--- What the functions of the crate stand on. Assumes nothing.
-pub mod Room

@@ -1,0 +1,2 @@
+-- Laws over the program's loop. Assumes nothing.
+pub mod Loop

@@ -1,0 +1,118 @@
+-- The program's loop, a law for each way that a turn can go. Assumes nothing.
+use mathlib.Core.Path.{_≡_, refl, sym, ap, _∙_}
+use mathlib.Core.Bool.{Bool, true, false, cond}
+use mathlib.Core.List.{List, [], _∷_, _++_}
+use Prim.Native.Nat.{ℕ, _≤_, _<_, _*_, _+_, _-_, min}
+use native.Mathlib.Numerals.{unary-clauses}
+use native.Mathlib.Omega.{arith}
+use lib.ListN.{length, take, length-append}
+use lib.IntN.{ℤ, pos, negsuc}
+use lib.Signed.{ltZ}
+use mir.Syntax.{w64}
+use mir.Val.{SFits, toZ, ofZ}
+use mir.ValLaws.{toZ-ofZ}
+use borrow.Author.Tests.{ne-eqb, ltb-true}
+use Rattle.io.specs.Counts.{clamped}
+use Rattle.cluster.specs.declared.Cluster.{Cluster}
+use Rattle.replay.specs.declared.Session.{Session}
+use Rattle.replay.specs.declared.Fed.{Fed}
+use Rattle.replay.specs.Texts.{answers, leaves}
+use Rattle.replay.specs.Pieces.{answerLine, begun, runs, says, together, runsAll, saysAll, placed, fedOf, fedOut, ending, ended}
+use Rattle.replay.proofs.Whole.{any-pieces, any-pieces-record}
+use Rattle.replay.proofs.Parts.{fed-all, fed-all-out}
+use Rattle.shell.specs.declared.End.{End}
+use Rattle.shell.specs.declared.End.the-variants.{More, Input, CannotRead, CannotWrite}
+use Rattle.shell.specs.declared.Drained.{Drained}
+use Rattle.shell.specs.Loop.{endOf, given, mostTurns, Poured, Turned, Drains}
+
+pub poured : (s : Session) (piece out out′ : List ℕ) (f : Fed) (wrote : Bool) → answerLine * length piece ≤ length out
+    → f ≡ fedOf s piece (length out) → out′ ≡ fedOut s piece out
+    → Poured s piece (record { session = f .session; end = cond wrote More CannotWrite }) × (out′ ≡ placed out 0 (says s piece))
+poured s piece out out′ f wrote h e o = (
+  record { session = fed-all s piece (length out) f h e .session; wrote = wrote; end = refl },
+  o ∙ fed-all-out s piece out h,
+)
+
+-- what the tests of a signed number say of it
+signed-is : (z : ℤ) (n : ℕ) → SFits w64 z → ofZ w64 z ≡ n → z ≡ toZ w64 n
+signed-is z n f e = sym (toZ-ofZ w64 z f) ∙ ap (toZ w64) e
+
+signed-below : (z : ℤ) (b : Bool) → SFits w64 z → ltZ (toZ w64 (ofZ w64 z)) (pos 0) ≡ b → ltZ z (pos 0) ≡ b
+signed-below z b f e = ap (λ (y : ℤ). ltZ y (pos 0)) (sym (toZ-ofZ w64 z f)) ∙ e
+
+none : (n : ℕ) → 0 ≡ min 0 n
+none n = simp unary-clauses
+
+-- the read answered 0
+pub turned-end : (s : Session) (buffer : List ℕ) (got : ℤ) → SFits w64 got → ofZ w64 got ≡ 0
+    → Turned s buffer got (record { session = s; end = Input })
+unfolding endOf
+turned-end s buffer got f e =
+    rw (signed-is got 0 f e) (record { session = ap (λ (k : ℕ). runs s (take k buffer)) (none (length buffer)); wrote = true; end = refl })
+
+-- the read answered that it failed
+pub turned-failed : (s : Session) (buffer : List ℕ) (got : ℤ) → SFits w64 got → ltZ (toZ w64 (ofZ w64 got)) (pos 0) ≡ true
+    → Turned s buffer got (record { session = s; end = CannotRead })
+unfolding endOf
+turned-failed s buffer got f e = go got (signed-below got true f e)
+  where
+    go : (z : ℤ) → ltZ z (pos 0) ≡ true → Turned s buffer z (record { session = s; end = CannotRead })
+    go (pos n) h = let l : n < 0 = ltb-true n 0 h in let z : ⊥ = omega arith in absurd z
+    go (negsuc n) h = record { session = refl; wrote = true; end = refl }
+
+-- the read answered some bytes
+pub turned-piece : (s : Session) (buffer : List ℕ) (got : ℤ) (n : ℕ) (r : Drained) → SFits w64 got → (ofZ w64 got ≡ 0 → ⊥)
+    → ltZ (toZ w64 (ofZ w64 got)) (pos 0) ≡ false → n ≡ clamped (toZ w64 (ofZ w64 got)) (length buffer) → Poured s (take n buffer) r → Turned s buffer got r
+unfolding endOf
+turned-piece s buffer got n r f a b e p =
+    go got (signed-below got false f b) (λ z. a (ap (ofZ w64) z)) (e ∙ ap (λ (z : ℤ). clamped z (length buffer)) (toZ-ofZ w64 got f))
+  where
+    go : (z : ℤ) → ltZ z (pos 0) ≡ false → (z ≡ pos 0 → ⊥) → n ≡ clamped z (length buffer) → Turned s buffer z r
+    go (pos k) h some e =
+        record {
+          session = p .session ∙ ap (λ (j : ℕ). runs s (take j buffer)) e;
+          wrote = p .wrote;
+          end = rw (ne-eqb k 0 (λ z. some (ap pos z))) (p .end);
+        }
+    go (negsuc k) h some e = let z : _≡_ {A = ℕ} 0 1 = cc in let w : ⊥ = omega arith in absurd w
+
+-- one piece more
+pub runs-all-more : (s : Session) (xs : List (List ℕ)) (x : List ℕ) → runsAll s (xs ++ (x ∷ [])) ≡ runs (runsAll s xs) x
+runs-all-more s [] x = refl
+runs-all-more s (y ∷ ys) x = runs-all-more (runs s y) ys x
+
+-- some pieces have gone through the session, so many that the rest of the turns is left
+pub record Going (s d : Session) (turns : ℕ) : Type 0 where
+  pub pieces : List (List ℕ)
+  pub session : d ≡ runsAll s pieces
+  pub left : length pieces + turns ≡ mostTurns
+
+pub begins : (s : Session) → Going s s mostTurns
+begins s = record { pieces = []; session = refl; left = refl }
+
+pub goes-on : (s d : Session) (turns : ℕ) (buffer : List ℕ) (got : ℤ) (t : Drained) → Going s d turns → Turned d buffer got t → 0 < turns
+    → Going s (t .session) (turns - 1)
+goes-on s d turns buffer got t g u h =
+    record {
+      pieces = g .pieces ++ (given got buffer ∷ []);
+      session = u .session ∙ ap (λ (e : Session). runs e (given got buffer)) (g .session) ∙ sym (runs-all-more s (g .pieces) (given got buffer));
+      left = omega (arith, length-append (g .pieces) (given got buffer ∷ []), g .left);
+    }
+
+pub stops : (s d : Session) (turns : ℕ) (buffer : List ℕ) (got : ℤ) (t : Drained) → Going s d turns → Turned d buffer got t → 0 < turns
+    → (t .end ≡ More → ⊥) → Drains s t
+stops s d turns buffer got t g u h over =
+    let n = goes-on s d turns buffer got t g u h in
+    record { pieces = n .pieces; session = n .session; last = got; wrote = u .wrote; end = u .end; patient = λ e. absurd (over e) }
+
+pub gives-up-at : (s d : Session) (turns : ℕ) → turns ≤ 0 → Going s d turns → Drains s (record { session = d; end = More })
+unfolding endOf
+gives-up-at s d turns h g =
+    record { pieces = g .pieces; session = g .session; last = pos 1; wrote = true; end = refl; patient = λ e. omega (arith, g .left) }
+
+-- what the program's loop comes to: the pieces that it read are a text, whose answers were said and whose record is left
+pub drained-record : (c : Cluster) (r : Drained) (d : Drains (begun c) r) → ended (r .session) ≡ leaves c (together (d .pieces))
+drained-record c r d = ap ended (d .session) ∙ any-pieces-record c (d .pieces)
+
+pub drained-says : (c : Cluster) (r : Drained) (d : Drains (begun c) r) → saysAll (begun c) (d .pieces) ++ ending (r .session) ≡ answers c (together (d .pieces))
+drained-says c r d = ap (λ (s : Session). saysAll (begun c) (d .pieces) ++ ending s) (d .session) ∙ any-pieces c (d .pieces)

@@ -1,0 +1,54 @@
+-- The program's loop: what a turn does with what was read, and the pieces that a whole input was. Nobody has to believe this: what
+-- `pour` and `turn` do follows, and `any-pieces` of `replay` says what pieces come to. Assumes nothing.
+use mathlib.Core.Path.{_≡_}
+use mathlib.Core.List.{List}
+use mathlib.Core.Bool.{Bool, cond}
+use Prim.Native.Nat.{ℕ}
+use lib.Dec.{eqb}
+use lib.ListN.{length, take}
+use lib.IntN.{ℤ, pos, negsuc}
+use Rattle.io.specs.Counts.{clamped}
+use Rattle.replay.specs.declared.Session.{Session}
+use Rattle.replay.specs.Pieces.{runs, runsAll}
+use Rattle.shell.specs.declared.End.{End}
+use Rattle.shell.specs.declared.End.the-variants.{More, Input, CannotRead, CannotWrite}
+use Rattle.shell.specs.declared.Drained.{Drained}
+
+-- how many bytes are read at once, and as many turns as a u64 counts
+abbrev pub mostPiece : ℕ
+mostPiece = 16384
+
+abbrev pub mostTurns : ℕ
+mostTurns = 18446744073709551615
+
+-- how a turn ends, by what the read answered and whether the answers could be written: there may be more to read; the input is at
+-- its end; it can't be read; the answers can't be written
+unfoldable pub endOf : ℤ → Bool → End
+endOf (pos n) wrote = cond (eqb n 0) Input (cond wrote More CannotWrite)
+endOf (negsuc n) wrote = CannotRead
+
+-- the bytes that a read gave: so many of the buffer's first as it answered
+abbrev pub given : ℤ → List ℕ → List ℕ
+given got buffer = take (clamped got (length buffer)) buffer
+
+-- a piece: every byte of it has gone through the session, and its answers were written or can't be
+pub record Poured (s : Session) (piece : List ℕ) (r : Drained) : Type 0 where
+  pub session : r .session ≡ runs s piece
+  pub wrote : Bool
+  pub end : r .end ≡ cond wrote More CannotWrite
+
+-- one turn: every byte that was given has gone through the session, and the turn ends as it must
+pub record Turned (s : Session) (buffer : List ℕ) (got : ℤ) (r : Drained) : Type 0 where
+  pub session : r .session ≡ runs s (given got buffer)
+  pub wrote : Bool
+  pub end : r .end ≡ endOf got wrote
+
+-- all turns: the session has gone through pieces, and it stopped for what the last read answered or because the answers couldn't be
+-- written; it gives up with more to read only after so many turns as nobody lives to see
+pub record Drains (s : Session) (r : Drained) : Type 0 where
+  pub pieces : List (List ℕ)
+  pub session : r .session ≡ runsAll s pieces
+  pub last : ℤ
+  pub wrote : Bool
+  pub end : r .end ≡ endOf last wrote
+  pub patient : r .end ≡ More → length pieces ≡ mostTurns
