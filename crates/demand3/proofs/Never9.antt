@@ -16,10 +16,11 @@ use Rattle.steps.specs.declared.Refusal.the-variants.{OutOfRange, BelowCommitPo
 use Rattle.steps.specs.declared.Step.{Step}
 use Rattle.steps.specs.declared.Step.the-variants.{Start}
 use Rattle.steps.specs.Ranges.{FitsStep}
-use Rattle.steps.proofs.Decided.{Clear, Broken, here, later}
+use Rattle.steps.specs.Reasons.{Clear, Broken, here, later}
 use Rattle.wholes.specs.Starts.{startRules}
 use Rattle.rules.specs.Rules.{rowOf, rulesOf, isStart, stepOf}
-use Rattle.rules.proofs.Outcomes.{Why, ill-formed, broken, StepDone, step-cases, refused-why}
+use Rattle.rules.specs.Statements.{Why, ill-formed, broken}
+use Rattle.rules.proofs.Outcomes.{StepDone, step-cases, refused-why}
 use Rattle.frames.specs.declared.ReadStep.{ReadStep}
 use Rattle.frames.specs.declared.ReadStep.the-variants as R
 use Rattle.frames.specs.Steps.{readStep}

@@ -22,6 +22,7 @@ use Rattle.safety.specs.Promise.{runOf, StepsFrom, momentOf, afterOf}
 use Rattle.demand3.specs.Promise.{Line, NoneBegins, Stretch, moment, later}
 use Rattle.demand3.proofs.Starts.{answer-is, answer-of}
 use Rattle.demand3.proofs.Written.{hex-line}
+use Rattle.demand3.specs.Promise.{AsText, EveryRun}
 
 -- the lines of steps, and their text
 abbrev linesOf : List Step → List Line
@@ -63,17 +64,6 @@ start-is : (n : ℕ) → fewestServers ≤ n → n ≤ mostServers → answerTo 
 unfolding rowOf
 start-is n two seven =
     line-is zeroCluster (Start n) (omega arith) ∙ step-done zeroCluster (Start n) refl (le-leb fewestServers n two, (le-leb n mostServers seven, tt))
-
--- nothing of the promise over steps is lost: any run of steps from a fresh cluster is a stretch of some text
-pub record AsText (n : ℕ) (r₁ r₂ : List Step) : Type 0 where
-  pub text : List ℕ
-  pub stretch : Stretch text
-  pub moment-is : moment stretch ≡ momentOf n r₁
-  pub later-is : later stretch ≡ afterOf n r₁ r₂
-
-abbrev pub EveryRun : Type 0
-EveryRun = (n : ℕ) (r₁ r₂ : List Step) → fewestServers ≤ n → n ≤ mostServers → StepsFrom (freshCluster n) r₁ → StepsFrom (momentOf n r₁) r₂
-    → AsText n r₁ r₂
 
 pub every-run : EveryRun
 every-run n r₁ r₂ two seven h₁ h₂ = record { text = textOf (Start n ∷ (r₁ ++ r₂)); stretch = stretch; moment-is = x-is; later-is = rw x-is (lines-run (momentOf n r₁) r₂ h₂) }

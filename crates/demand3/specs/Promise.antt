@@ -18,7 +18,8 @@ use Rattle.answers.specs.declared.ReadAnswer.the-variants as A
 use Rattle.frames.specs.Steps.{readStep}
 use Rattle.answers.specs.Answers.{readAnswer}
 use Rattle.replay.specs.Texts.{lines, answerTo, recordAfter, answers}
-use Rattle.safety.specs.Promise.{entryOf, Shows, Kept}
+use Rattle.steps.specs.declared.Step.{Step}
+use Rattle.safety.specs.Promise.{StepsFrom, entryOf, Shows, Kept, momentOf, afterOf}
 
 abbrev pub Line : Type 0
 Line = List ℕ
@@ -103,3 +104,16 @@ Never9InTexts = (text : List ℕ) → Never9On zeroCluster (lines text)
 -- and no line of what the program writes then reads as refusal 9
 abbrev pub Never9Written : Type 0
 Never9Written = (text : List ℕ) (i : ℕ) → readAnswer (getD (lines (answers zeroCluster text)) i []) ≢ A.Telling (Refusing BelowCommitPoint)
+
+-- ---- every run is a text
+
+-- nothing of the promise over steps is lost: any run of steps from a fresh cluster is a stretch of some text
+pub record AsText (n : ℕ) (r₁ r₂ : List Step) : Type 0 where
+  pub text : List ℕ
+  pub stretch : Stretch text
+  pub moment-is : moment stretch ≡ momentOf n r₁
+  pub later-is : later stretch ≡ afterOf n r₁ r₂
+
+abbrev pub EveryRun : Type 0
+EveryRun = (n : ℕ) (r₁ r₂ : List Step) → fewestServers ≤ n → n ≤ mostServers → StepsFrom (freshCluster n) r₁ → StepsFrom (momentOf n r₁) r₂
+    → AsText n r₁ r₂

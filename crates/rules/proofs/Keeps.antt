@@ -26,7 +26,7 @@ use Rattle.steps.specs.declared.Step.{Step}
 use Rattle.steps.specs.declared.Step.the-variants.{Start, Elect, StepDown, Hears, Pulls, RollsBack, Writes, Advances, WallClock, Restarts, LocalRead, MajorityRead, Acknowledged, ClocksAgree}
 use Rattle.base.specs.Numbers.{byte}
 use Rattle.steps.specs.Ranges.{FitsStep}
-use Rattle.steps.proofs.Decided.{Clear}
+use Rattle.steps.specs.Reasons.{Clear}
 use Rattle.wholes.specs.Elects.{mayVote, allMayVote, electRules, newTerm}
 use Rattle.counts.specs.Advances.{passes, highestPassing, advanceDone}
 use Rattle.wholes.specs.Starts.{startRules}

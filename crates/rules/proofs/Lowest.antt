@@ -13,14 +13,12 @@ use Rattle.steps.specs.declared.Refusal.{Refusal}
 use Rattle.steps.specs.declared.Step.{Step}
 use Rattle.steps.specs.declared.Step.the-variants.{Start, Elect, StepDown, Hears, Pulls, RollsBack, Writes, Advances, WallClock, Restarts, LocalRead, MajorityRead, Acknowledged, ClocksAgree}
 use Rattle.steps.specs.Refusals.{Rules, refusalNumber}
-use Rattle.steps.proofs.Decided.{Broken, here, later}
+use Rattle.steps.specs.Reasons.{Broken, here, later}
 use Rattle.rules.specs.Rules.{rowOf, rulesOf, stepOf}
-use Rattle.rules.proofs.Outcomes.{Why, ill-formed, broken, refused-why}
-
--- a rule that is broken, wherever it stands in the list
-pub data Applies : Rules → Refusal → Type 0 where
-  first : {b : Bool} {r : Refusal} {rs : Rules} → b ≡ false → Applies ((b, r) ∷ rs) r
-  among : {b : Bool} {n r : Refusal} {rs : Rules} → Applies rs r → Applies ((b, n) ∷ rs) r
+use Rattle.rules.specs.Statements.{Why, ill-formed, broken}
+use Rattle.rules.proofs.Outcomes.{refused-why}
+use Rattle.rules.specs.Statements.{OfKind12}
+use Rattle.steps.specs.Reasons.{Applies, first, among}
 
 -- the numbers of the refusals begin at n and don't fall
 abbrev rises : ℕ → Rules → Bool
@@ -44,9 +42,6 @@ lowest n ((b, m) ∷ rs) e (here t) (first f) = omega arith
 lowest n ((b, m) ∷ rs) e (here t) (among a) = at-least (refusalNumber m) rs (goes-on n b m rs e) a
 lowest n ((b, m) ∷ rs) e (later t k) (first f) = absurd (true≢false (sym t ∙ f))
 lowest n ((b, m) ∷ rs) e (later t k) (among a) = lowest (refusalNumber m) rs (goes-on n b m rs e) k a
-
-abbrev pub OfKind12 : Step → Type 0
-OfKind12 s = (a : ℕ) × (k : ℕ) × (n : ℕ) × (term : ℕ) × (s ≡ Acknowledged a k n term)
 
 -- every other kind's rules rise, from refusal 3 on
 rules-rise : (c : Cluster) (s : Step) → (OfKind12 s → ⊥) → rises 3 (rulesOf c s) ≡ true

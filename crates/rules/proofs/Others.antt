@@ -23,25 +23,9 @@ use Rattle.wholes.specs.Elects.{newTerm}
 use Rattle.wholes.specs.ClocksAgree.{greatestClock}
 use Rattle.rules.specs.Rules.{rowOf, doneOf, isStart, stepOf}
 use Rattle.rules.proofs.Outcomes.{step-cases}
+use Rattle.rules.specs.Statements.{touches}
 
 -- ---- which servers a step may change
-
--- the server that it names, a set's members, every counted server; a step that only asks changes none
-abbrev pub touches : Cluster → Step → ℕ → Bool
-touches c (Start n) i = true
-touches c (Elect a m) i = member m i
-touches c (StepDown a) i = eqb i a
-touches c (Hears a b) i = eqb i a
-touches c (Pulls a b) i = eqb i a
-touches c (RollsBack a b) i = eqb i a
-touches c (Writes a key value) i = eqb i a
-touches c (Advances a) i = eqb i a
-touches c (WallClock a) i = eqb i a
-touches c (Restarts a) i = eqb i a
-touches c (LocalRead a key asked) i = false
-touches c (MajorityRead a key asked) i = false
-touches c (Acknowledged a k n term) i = false
-touches c ClocksAgree i = ltb i (c .count)
 
 -- ---- servers before and after
 

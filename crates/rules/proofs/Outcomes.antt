@@ -13,8 +13,10 @@ use Rattle.steps.specs.declared.Refusal.the-variants.{IllFormed}
 use Rattle.steps.specs.declared.Step.{Step}
 use Rattle.steps.specs.declared.Step.the-variants.{Start, Elect, StepDown, Hears, Pulls, RollsBack, Writes, Advances, WallClock, Restarts, LocalRead, MajorityRead, Acknowledged, ClocksAgree}
 use Rattle.steps.specs.Answers.{refusingAll}
-use Rattle.steps.proofs.Decided.{Clear, Broken, clear-or-broken, decided-clear, decided-broken}
+use Rattle.steps.specs.Reasons.{Clear, Broken}
+use Rattle.steps.proofs.Decided.{clear-or-broken, decided-clear, decided-broken}
 use Rattle.rules.specs.Rules.{rowOf, rulesOf, doneOf, coreOf, isStart, stepOf}
+use Rattle.rules.specs.Statements.{Why, ill-formed, broken, isRefused}
 
 -- ---- done or refused
 
@@ -36,11 +38,6 @@ pub record StepDone (c : Cluster) (s : Step) : Type 0 where
   pub clear : Clear (rulesOf c s)
   pub is : stepOf c s ≡ doneOf c s
 
--- why a step is refused: the record is ill formed and the step no start, or a rule is broken
-pub data Why (c : Cluster) (s : Step) : Refusal → Type 0 where
-  ill-formed : (isStart s || wellFormed c) ≡ false → Why c s IllFormed
-  broken : {r : Refusal} → (isStart s || wellFormed c) ≡ true → Broken (rulesOf c s) r → Why c s r
-
 pub record StepRefused (c : Cluster) (s : Step) : Type 0 where
   pub refusal : Refusal
   pub why : Why c s refusal
@@ -55,14 +52,6 @@ step-cases c s = go (isStart s || wellFormed c) refl (clear-or-broken (rulesOf c
     go false e w = inr (record { refusal = IllFormed; why = ill-formed e; is = step-ill-formed c s e })
 
 -- ---- a refusal changes nothing
-
-abbrev pub isRefused : Answer → Bool
-isRefused A.Done = false
-isRefused (A.Elected term) = false
-isRefused (A.Reached n) = false
-isRefused (A.Entry n term time) = false
-isRefused (A.Value value time) = false
-isRefused (A.Refused r) = true
 
 -- what is done answers no refusal
 pub done-not-refused : (c : Cluster) (s : Step) → isRefused (doneOf c s .answer) ≡ false

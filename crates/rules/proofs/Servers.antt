@@ -30,7 +30,7 @@ use Rattle.log.proofs.Tidy.{tidy-length, live-appended, tidy-appended, live-joi
 use Rattle.cluster.specs.declared.Server.{Server}
 use Rattle.cluster.specs.Ranges.{FitsServer}
 use Rattle.cluster.proofs.Good.{ServerGood}
-use Rattle.steps.proofs.Decided.{Clear}
+use Rattle.steps.specs.Reasons.{Clear}
 use Rattle.pairs.specs.Hears.{takesCommit, heardOf}
 use Rattle.pairs.specs.Pulls.{pullRules, tookOf, pulledOf}
 use Rattle.pairs.specs.RollsBack.{common, rollRules, rolledOf}

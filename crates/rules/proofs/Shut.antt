@@ -29,18 +29,8 @@ use Rattle.steps.specs.Answers.{refusingAll, tellingOf}
 use Rattle.singles.specs.Writes.{wroteOf}
 use Rattle.wholes.specs.Elects.{notBehind, mayVote, allMayVote}
 use Rattle.rules.specs.Rules.{rowOf, coreOf, stepOf}
-use Rattle.rules.proofs.Outcomes.{isRefused}
-
--- ---- what a program is held to
-
-abbrev pub Program : Type 0
-Program = Cluster → Step → Outcome
-
--- a record and a step at which the program gives something else than the step
-pub record Differs (p : Program) : Type 0 where
-  pub from : Cluster
-  pub takes : Step
-  pub differs : p from takes ≡ stepOf from takes → ⊥
+use Rattle.rules.specs.Statements.{isRefused}
+use Rattle.rules.specs.Statements.{Program, Differs, refusesEach, saysOne, leavesAll, echoesLater}
 
 -- ---- an election and two reads that are allowed
 
@@ -129,29 +119,14 @@ echoing-differs p h = record { from = fresh; takes = election; differs = same }
 
 -- ---- the four programs
 
-abbrev pub refusesEach : Refusal → Program
-refusesEach r c s = refusingAll c r
-
 pub refuses-each : (r : Refusal) → Differs (refusesEach r)
 refuses-each r = refusing-differs (refusesEach r) (λ c s. refl)
-
--- its records are right
-abbrev pub saysOne : Answer → Program
-saysOne a c s = record { cluster = stepOf c s .cluster; answer = a }
 
 pub says-one : (a : Answer) → Differs (saysOne a)
 says-one a = unvarying-differs (saysOne a) (tellingOf a) (λ c s. refl)
 
--- its answers are right
-abbrev pub leavesAll : Program
-leavesAll c s = record { cluster = c; answer = stepOf c s .answer }
-
 pub leaves-all : Differs leavesAll
 leaves-all = echoing-differs leavesAll (λ c s w. refl)
-
--- it performs the first step, on the record that is all zero, and echoes from then on
-abbrev pub echoesLater : Program
-echoesLater c s = cond (eqb (c .count) 0) (stepOf c s) (record { cluster = c; answer = A.Done })
 
 -- a well-formed record has a count of at least 2
 echoed : (c : Cluster) (s : Step) → wellFormed c ≡ true → echoesLater c s .cluster ≡ c

@@ -15,7 +15,7 @@ use Rattle.cluster.specs.Ranges.{Fits}
 use Rattle.cluster.specs.Servers.{serverCount, serverAt, withServer, clockedOf}
 use Rattle.steps.specs.declared.Step.{Step}
 use Rattle.steps.specs.declared.Step.the-variants.{StepDown, Hears, WallClock, Restarts, LocalRead, MajorityRead, Acknowledged, ClocksAgree}
-use Rattle.steps.proofs.Decided.{Clear}
+use Rattle.steps.specs.Reasons.{Clear}
 use Rattle.pairs.specs.Hears.{takesCommit, heardOf}
 use Rattle.singles.specs.StepsDown.{downOf}
 use Rattle.singles.specs.WallClock.{tickedOf}

@@ -22,7 +22,8 @@ use Rattle.steps.specs.declared.Outcome.{Outcome}
 use Rattle.steps.specs.Ranges.{FitsStep}
 use Rattle.steps.specs.Refusals.{refusalNumber, Rules}
 use Rattle.steps.specs.Answers.{refusingAll}
-use Rattle.steps.proofs.Decided.{Clear, Broken, here, later, clear-or-broken, decided-clear, decided-broken}
+use Rattle.steps.specs.Reasons.{Clear, Broken, here, later}
+use Rattle.steps.proofs.Decided.{clear-or-broken, decided-clear, decided-broken}
 use Rattle.rules.specs.Rules.{rowOf, rulesOf, doneOf, coreOf, isStart, stepOf}
 use Rattle.safety.specs.Quorum.{Quorums, Majority}
 use Rattle.safety.specs.Steps.{Goes, Walk}

@@ -5,16 +5,7 @@ use mathlib.Core.Bool.{Bool, true, false, cond}
 use mathlib.Core.Logic.{_⊎_, inl, inr}
 use Rattle.steps.specs.declared.Refusal.{Refusal}
 use Rattle.steps.specs.Refusals.{Rules, decided}
-
--- every test passes: each fact is a part
-abbrev pub Clear : Rules → Type 0
-Clear [] = Unit {0}
-Clear (r ∷ rs) = (r .0 ≡ true) × Clear rs
-
--- one that fails, after all before it pass
-pub data Broken : Rules → Refusal → Type 0 where
-  here : {b : Bool} {r : Refusal} {rs : Rules} → b ≡ false → Broken ((b, r) ∷ rs) r
-  later : {b : Bool} {n r : Refusal} {rs : Rules} → b ≡ true → Broken rs r → Broken ((b, n) ∷ rs) r
+use Rattle.steps.specs.Reasons.{Clear, Broken, here, later}
 
 -- a list of rules is clear, or one of them is the first that is broken
 pub clear-or-broken : (rs : Rules) → Clear rs ⊎ ((r : Refusal) × Broken rs r)

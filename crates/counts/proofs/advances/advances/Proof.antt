@@ -1,6 +1,7 @@
 -- `counts::advances::advances` meets its contract. Assumes nothing.
 use Rattle.counts.specs.Advances.{highestPassing, committedOf, advanceRules, advanceDone}
-use Rattle.steps.proofs.Decided.{here, later, decided-clear, decided-broken}
+use Rattle.steps.specs.Reasons.{here, later}
+use Rattle.steps.proofs.Decided.{decided-clear, decided-broken}
 use Rattle.steps.specs.Answers.{refusingAll}
 use Rattle.steps.specs.declared.Answer.the-variants.{Reached}
 use Rattle.steps.specs.declared.Outcome.{Outcome}

@@ -1,5 +1,6 @@
 -- `singles::steps_down::steps_down` meets its contract. Assumes nothing.
-use Rattle.steps.proofs.Decided.{here, decided-clear, decided-broken}
+use Rattle.steps.specs.Reasons.{here}
+use Rattle.steps.proofs.Decided.{decided-clear, decided-broken}
 use Rattle.steps.specs.Answers.{refusing}
 use Rattle.singles.specs.StepsDown.{downRules, downDone}
 use mathlib.Core.Path.{sym, _∙_}

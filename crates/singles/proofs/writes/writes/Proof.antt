@@ -1,5 +1,6 @@
 -- `singles::writes::writes` meets its contract. Assumes nothing.
-use Rattle.steps.proofs.Decided.{here, later, decided-clear, decided-broken}
+use Rattle.steps.specs.Reasons.{here, later}
+use Rattle.steps.proofs.Decided.{decided-clear, decided-broken}
 use Rattle.steps.specs.Answers.{refusing}
 use Rattle.singles.specs.Writes.{ticks, tickTime, writeRules, writeDone, writtenOf}
 use Rattle.log.specs.Order.{highestKey}

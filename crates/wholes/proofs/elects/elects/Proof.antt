@@ -1,6 +1,7 @@
 -- `wholes::elects::elects` meets its contract. Assumes nothing.
 use Rattle.wholes.specs.Elects.{allMayVote, newTerm, electRules, electDone}
-use Rattle.steps.proofs.Decided.{here, later, decided-clear, decided-broken}
+use Rattle.steps.specs.Reasons.{here, later}
+use Rattle.steps.proofs.Decided.{decided-clear, decided-broken}
 use Rattle.steps.specs.Answers.{refusingAll}
 use Rattle.steps.specs.declared.Answer.the-variants.{Elected}
 use Rattle.steps.specs.declared.Outcome.{Outcome}
