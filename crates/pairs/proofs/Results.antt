@@ -16,11 +16,11 @@ use Rattle.pairs.proofs.pulls.may_join.Reads as may-join-reads
 use Rattle.pairs.proofs.pulls.pulls.Reads as pulls-reads
 use Rattle.pairs.proofs.rolls_back.rolls_back.Reads as rolls-back-reads
 
-pub greater-term : (x y : ℕ) → OneResult (λ x. greater-term-reads.Learnt tt (x, (y, tt)) x (x, (y, tt)))
-greater-term x y = one-result (max x y)
+pub greater-term : (m n : ℕ) → OneResult (λ x. greater-term-reads.Learnt tt (m, (n, tt)) x (m, (n, tt)))
+greater-term m n = one-result (max m n)
 
-pub greater : (x y : ℕ) → OneResult (λ x. greater-reads.Learnt tt (x, (y, tt)) x (x, (y, tt)))
-greater x y = one-result (max x y)
+pub greater : (m n : ℕ) → OneResult (λ x. greater-reads.Learnt tt (m, (n, tt)) x (m, (n, tt)))
+greater m n = one-result (max m n)
 
 pub takes-commit : (s t : Server) → OneResult (λ x. takes-commit-reads.Learnt tt (s, (t, tt)) x (s, (t, tt)))
 takes-commit s t = one-result (takesCommit s t)
