@@ -199,7 +199,7 @@ fn report(functions: &[Function], excepted: &BTreeSet<&str>) -> ExitCode {
     for Function { path, place, lacks } in functions.iter().filter(|f| !f.lacks.is_empty()) {
         unneeded.remove(path.as_str());
         if !excepted.contains(path.as_str()) {
-            let told = |lack| format!("{path} ({place}) {lack}, or give the reason in {PROMISES}");
+            let told = |lack| format!("{path} ({place}) {lack}, or except it in {PROMISES}");
             findings.extend(lacks.iter().map(told));
         }
     }
@@ -219,6 +219,6 @@ fn report(functions: &[Function], excepted: &BTreeSet<&str>) -> ExitCode {
         );
         return ExitCode::SUCCESS;
     }
-    println!("{all} public functions, {} findings", findings.len());
+    println!("{all} public functions, findings: {}", findings.len());
     ExitCode::FAILURE
 }
