@@ -85,10 +85,19 @@ fn name_of(path: &Path) -> String {
     path.file_stem().unwrap_or_default().to_string_lossy().into_owned()
 }
 
-/// The text with its lines in their places, so that a comment can't pass for a contract.
+/// The code alone, its lines in their places, so that a comment can't pass for a contract.
 fn without_comments(text: &str) -> String {
-    let code = text.lines().map(|line| line.split("//").next().unwrap_or_default());
-    code.collect::<Vec<_>>().join("\n")
+    let (mut code, mut rest) = (String::new(), text);
+    while let Some(at) = rest.find("/*").into_iter().chain(rest.find("//")).min() {
+        let (before, comment) = rest.split_at(at);
+        let is_block = comment.starts_with("/*");
+        let end = if is_block { comment.find("*/").map(|end| end + 2) } else { comment.find('\n') };
+        let (comment, after) = comment.split_at(end.unwrap_or(comment.len()));
+        code.push_str(before);
+        code.extend(comment.matches('\n'));
+        rest = after;
+    }
+    code + rest
 }
 
 /// The public functions of a text: where each name begins, and the name.
