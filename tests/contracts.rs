@@ -13,8 +13,9 @@ use std::process::ExitCode;
 const PROMISES: &str = "docs/PROMISES.md";
 /// What may stand between `pub` and `fn`.
 const QUALIFIERS: [&str; 4] = ["const", "unsafe", "extern", "\"C\""];
-/// How a law speaks of a contract: of the result, or of the result and a lent buffer.
-const FORMS: [&str; 2] = ["OneResult (λ x. ", "OneOutcome (λ x o. "];
+/// How a law speaks of a contract: of the result, or of the result and of a buffer lent by `&mut`.
+const OF_RESULT: &str = "OneResult (λ x. ";
+const OF_BUFFER: &str = "OneOutcome (λ x o. ";
 
 /// A public function by its path, as `cluster::sets::within`, where it stands, and what it lacks.
 struct Function {
@@ -47,9 +48,11 @@ fn functions(crates: &Path) -> io::Result<Vec<Function>> {
                 let path = path_of(&room, &folder.join("src"), &file, name);
                 let line = text[..start].lines().count();
                 let place = format!("{}, line {line}", file.display());
-                let mut lacks = lacks_in_contract(&text[start..]);
-                if !has_law(&results, &path) {
-                    lacks.push(law_wanted(&room, &path));
+                let (parameters, rest) = parameters(&text[start..]);
+                let mut lacks = lacks_in_contract(rest);
+                let form = if parameters.contains("&mut") { OF_BUFFER } else { OF_RESULT };
+                if !has_law(&results, &path, form) {
+                    lacks.push(law_wanted(&room, &path, form));
                 }
                 functions.push(Function { path, place, lacks });
             }
@@ -128,9 +131,15 @@ fn path_of(room: &str, src: &Path, file: &Path, name: &str) -> String {
     format!("{path}::{name}")
 }
 
+/// A function's parameters, and what follows them.
+fn parameters(text: &str) -> (&str, &str) {
+    let (_, inside) = text.split_once('(').unwrap_or_default();
+    let rest = after(inside, '(', ')');
+    (&inside[..inside.len() - rest.len()], rest)
+}
+
 /// What is wrong with a function's clauses, which stand between its parameters and its body.
-fn lacks_in_contract(text: &str) -> Vec<String> {
-    let mut rest = text.split_once('(').map_or("", |(_, parameters)| after(parameters, '(', ')'));
+fn lacks_in_contract(mut rest: &str) -> Vec<String> {
     let (mut ensures, mut requires) = (false, false);
     while let Some((words, block)) = rest.split_once('{') {
         let word = words.split_whitespace().find(|w| ["ensures", "requires", "fn"].contains(w));
@@ -176,22 +185,20 @@ fn law_of(path: &str) -> (String, String) {
     (name, import)
 }
 
-fn has_law(results: &str, path: &str) -> bool {
+fn has_law(results: &str, path: &str, form: &str) -> bool {
     let (name, import) = law_of(path);
     let mut laws = results.split("\npub ");
     let law = laws.find(|law| law.starts_with(&format!("{name} : "))).unwrap_or_default();
     let statement = law.split(&format!("\n{name} ")).next().unwrap_or_default();
-    let speaks =
-        FORMS.iter().any(|form| statement.contains(&format!("{form}{name}-reads.Learnt ")));
+    let speaks = statement.contains(&format!("{form}{name}-reads.Learnt "));
     speaks && results.lines().any(|line| line == import)
 }
 
-fn law_wanted(room: &str, path: &str) -> String {
+fn law_wanted(room: &str, path: &str, form: &str) -> String {
     let (name, import) = law_of(path);
     format!(
         "has no law about its contract; state one in crates/{room}/proofs/Results.antt as \
-         `pub {name} : .. → {}{name}-reads.Learnt ..)`, with `{import}`",
-        FORMS[0]
+         `pub {name} : .. → {form}{name}-reads.Learnt ..)`, with `{import}`"
     )
 }
 
