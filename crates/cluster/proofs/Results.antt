@@ -1,4 +1,4 @@
--- Any two results that a promise of this room allows are equal, one law for each public function. Assumes nothing.
+-- Each public function's contract allows one result, whatever the arguments. Assumes nothing.
 use mathlib.Core.Bool.{Bool}
 use Prim.Native.Nat.{ℕ, min}
 use Rattle.base.proofs.Results.{OneResult, one-result}
@@ -7,63 +7,83 @@ use Rattle.cluster.specs.declared.Server.{Server}
 use Rattle.cluster.specs.Servers.{clockedOf, clocksSet, electedAll, freshCluster, freshServer, mostServers, startedOf, votedOf, withServer, zeroCluster, zeroServer}
 use Rattle.cluster.specs.Sets.{isMajority, isWithin, member, membersOf}
 use Rattle.cluster.specs.WellFormed.{countedOk, numbersOk, serverOk, wellFormed, zeroOk}
+use Rattle.cluster.proofs.zero_server.Reads as zero-server-reads
+use Rattle.cluster.proofs.fresh_server.Reads as fresh-server-reads
+use Rattle.cluster.proofs.server_count.Reads as server-count-reads
+use Rattle.cluster.proofs.zero_cluster.Reads as zero-cluster-reads
+use Rattle.cluster.proofs.started.Reads as started-reads
+use Rattle.cluster.proofs.fresh_cluster.Reads as fresh-cluster-reads
+use Rattle.cluster.proofs.with_server.Reads as with-server-reads
+use Rattle.cluster.proofs.voted.Reads as voted-reads
+use Rattle.cluster.proofs.elect_all.Reads as elect-all-reads
+use Rattle.cluster.proofs.clocked.Reads as clocked-reads
+use Rattle.cluster.proofs.set_clocks.Reads as set-clocks-reads
+use Rattle.cluster.proofs.numbers_ok.Reads as numbers-ok-reads
+use Rattle.cluster.proofs.counted_ok.Reads as counted-ok-reads
+use Rattle.cluster.proofs.zero_ok.Reads as zero-ok-reads
+use Rattle.cluster.proofs.server_ok.Reads as server-ok-reads
+use Rattle.cluster.proofs.well_formed.Reads as well-formed-reads
+use Rattle.cluster.proofs.sets.is_member.Reads as is-member-reads
+use Rattle.cluster.proofs.sets.members.Reads as members-reads
+use Rattle.cluster.proofs.sets.within.Reads as within-reads
+use Rattle.cluster.proofs.sets.majority.Reads as majority-reads
 
-pub zero-server : OneResult zeroServer
+pub zero-server : OneResult (λ x. zero-server-reads.Learnt tt tt x tt)
 zero-server = one-result zeroServer
 
-pub fresh-server : OneResult freshServer
+pub fresh-server : OneResult (λ x. fresh-server-reads.Learnt tt tt x tt)
 fresh-server = one-result freshServer
 
-pub server-count : (count : ℕ) → OneResult (min count mostServers)
+pub server-count : (count : ℕ) → OneResult (λ x. server-count-reads.Learnt tt (count, tt) x (count, tt))
 server-count count = one-result (min count mostServers)
 
-pub zero-cluster : OneResult zeroCluster
+pub zero-cluster : OneResult (λ x. zero-cluster-reads.Learnt tt tt x tt)
 zero-cluster = one-result zeroCluster
 
-pub started : (s : Server) (i n : ℕ) → OneResult (startedOf n i s)
+pub started : (s : Server) (i n : ℕ) → OneResult (λ x. started-reads.Learnt tt (s, (i, (n, tt))) x (s, (i, (n, tt))))
 started s i n = one-result (startedOf n i s)
 
-pub fresh-cluster : (n : ℕ) → OneResult (freshCluster n)
+pub fresh-cluster : (n : ℕ) → OneResult (λ x. fresh-cluster-reads.Learnt tt (n, tt) x (n, tt))
 fresh-cluster n = one-result (freshCluster n)
 
-pub with-server : (c : Cluster) (i : ℕ) (s : Server) → OneResult (withServer c i s)
+pub with-server : (c : Cluster) (i : ℕ) (s : Server) → OneResult (λ x. with-server-reads.Learnt tt (c, (i, (s, tt))) x (c, (i, (s, tt))))
 with-server c i s = one-result (withServer c i s)
 
-pub voted : (s : Server) (i a set term : ℕ) → OneResult (votedOf a set term i s)
+pub voted : (s : Server) (i a set term : ℕ) → OneResult (λ x. voted-reads.Learnt tt (s, (i, (a, (set, (term, tt))))) x (s, (i, (a, (set, (term, tt))))))
 voted s i a set term = one-result (votedOf a set term i s)
 
-pub elect-all : (c : Cluster) (a set term : ℕ) → OneResult (electedAll c a set term)
+pub elect-all : (c : Cluster) (a set term : ℕ) → OneResult (λ x. elect-all-reads.Learnt tt (c, (a, (set, (term, tt)))) x (c, (a, (set, (term, tt)))))
 elect-all c a set term = one-result (electedAll c a set term)
 
-pub clocked : (s : Server) (i count wall : ℕ) → OneResult (clockedOf count wall i s)
+pub clocked : (s : Server) (i count wall : ℕ) → OneResult (λ x. clocked-reads.Learnt tt (s, (i, (count, (wall, tt)))) x (s, (i, (count, (wall, tt)))))
 clocked s i count wall = one-result (clockedOf count wall i s)
 
-pub set-clocks : (c : Cluster) (wall : ℕ) → OneResult (clocksSet c wall)
+pub set-clocks : (c : Cluster) (wall : ℕ) → OneResult (λ x. set-clocks-reads.Learnt tt (c, (wall, tt)) x (c, (wall, tt)))
 set-clocks c wall = one-result (clocksSet c wall)
 
-pub numbers-ok : (s : Server) → OneResult (numbersOk s)
+pub numbers-ok : (s : Server) → OneResult (λ x. numbers-ok-reads.Learnt tt (s, tt) x (s, tt))
 numbers-ok s = one-result (numbersOk s)
 
-pub counted-ok : (s : Server) → OneResult (countedOk s)
+pub counted-ok : (s : Server) → OneResult (λ x. counted-ok-reads.Learnt tt (s, tt) x (s, tt))
 counted-ok s = one-result (countedOk s)
 
-pub zero-ok : (s : Server) → OneResult (zeroOk s)
+pub zero-ok : (s : Server) → OneResult (λ x. zero-ok-reads.Learnt tt (s, tt) x (s, tt))
 zero-ok s = one-result (zeroOk s)
 
-pub server-ok : (s : Server) (counted : Bool) → OneResult (serverOk counted s)
+pub server-ok : (s : Server) (counted : Bool) → OneResult (λ x. server-ok-reads.Learnt tt (s, (counted, tt)) x (s, (counted, tt)))
 server-ok s counted = one-result (serverOk counted s)
 
-pub well-formed : (c : Cluster) → OneResult (wellFormed c)
+pub well-formed : (c : Cluster) → OneResult (λ x. well-formed-reads.Learnt tt (c, tt) x (c, tt))
 well-formed c = one-result (wellFormed c)
 
-pub is-member : (set i : ℕ) → OneResult (member set i)
+pub is-member : (set i : ℕ) → OneResult (λ x. is-member-reads.Learnt tt (set, (i, tt)) x (set, (i, tt)))
 is-member set i = one-result (member set i)
 
-pub members : (set : ℕ) → OneResult (membersOf set)
+pub members : (set : ℕ) → OneResult (λ x. members-reads.Learnt tt (set, tt) x (set, tt))
 members set = one-result (membersOf set)
 
-pub within : (set n : ℕ) → OneResult (isWithin set n)
+pub within : (set n : ℕ) → OneResult (λ x. within-reads.Learnt tt (set, (n, tt)) x (set, (n, tt)))
 within set n = one-result (isWithin set n)
 
-pub majority : (set count : ℕ) → OneResult (isMajority set count)
+pub majority : (set count : ℕ) → OneResult (λ x. majority-reads.Learnt tt (set, (count, tt)) x (set, (count, tt)))
 majority set count = one-result (isMajority set count)

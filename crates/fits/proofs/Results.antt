@@ -1,6 +1,38 @@
--- Any two results that a promise of this room allows are equal; its seven public functions promise the same one. Assumes nothing.
+-- Each public function's contract allows one result, whatever the argument. Assumes nothing.
 use mathlib.Core.Bool.{true}
 use Rattle.base.proofs.Results.{OneResult, one-result}
+use Rattle.clock.specs.declared.Time.{Time}
+use Rattle.log.specs.declared.Entry.{Entry}
+use Rattle.log.specs.declared.Log.{Log}
+use Rattle.cluster.specs.declared.Server.{Server}
+use Rattle.cluster.specs.declared.Cluster.{Cluster}
+use Rattle.steps.specs.declared.Step.{Step}
+use Rattle.steps.specs.declared.Telling.{Telling}
+use Rattle.fits.proofs.time_fits.Reads as time-fits-reads
+use Rattle.fits.proofs.entry_fits.Reads as entry-fits-reads
+use Rattle.fits.proofs.log_fits.Reads as log-fits-reads
+use Rattle.fits.proofs.server_fits.Reads as server-fits-reads
+use Rattle.fits.proofs.record_fits.Reads as record-fits-reads
+use Rattle.fits.proofs.step_fits.Reads as step-fits-reads
+use Rattle.fits.proofs.telling_fits.Reads as telling-fits-reads
 
-pub each-fits : OneResult true
-each-fits = one-result true
+pub time-fits : (t : Time) → OneResult (λ x. time-fits-reads.Learnt tt (t, tt) x (t, tt))
+time-fits t x y p q = one-result true x y (p .0) (q .0)
+
+pub entry-fits : (e : Entry) → OneResult (λ x. entry-fits-reads.Learnt tt (e, tt) x (e, tt))
+entry-fits e x y p q = one-result true x y (p .0) (q .0)
+
+pub log-fits : (g : Log) → OneResult (λ x. log-fits-reads.Learnt tt (g, tt) x (g, tt))
+log-fits g x y p q = one-result true x y (p .0) (q .0)
+
+pub server-fits : (s : Server) → OneResult (λ x. server-fits-reads.Learnt tt (s, tt) x (s, tt))
+server-fits s x y p q = one-result true x y (p .0) (q .0)
+
+pub record-fits : (c : Cluster) → OneResult (λ x. record-fits-reads.Learnt tt (c, tt) x (c, tt))
+record-fits c x y p q = one-result true x y (p .0) (q .0)
+
+pub step-fits : (s : Step) → OneResult (λ x. step-fits-reads.Learnt tt (s, tt) x (s, tt))
+step-fits s x y p q = one-result true x y (p .0) (q .0)
+
+pub telling-fits : (t : Telling) → OneResult (λ x. telling-fits-reads.Learnt tt (t, tt) x (t, tt))
+telling-fits t x y p q = one-result true x y (p .0) (q .0)

@@ -1,4 +1,4 @@
--- Any two results that a promise of this room allows are equal, one law for each public function. Assumes nothing.
+-- Each public function's contract allows one result, whatever the arguments. Assumes nothing.
 use Prim.Native.Nat.{ℕ}
 use lib.ListN.{take}
 use Rattle.base.proofs.Results.{OneResult, one-result}
@@ -7,60 +7,79 @@ use Rattle.log.specs.declared.Log.{Log}
 use Rattle.log.specs.Entries.{appliedTime, commonBeginning, entryAt, equalAt, isBeginning, lastTerm, latestValue, sameEntry, zeroEntry}
 use Rattle.log.specs.Logs.{appended, emptyLog, joined, lengthOf, live}
 use Rattle.log.specs.Order.{entryOk, inOrder, logOk, placeOk, restZero}
+use Rattle.log.proofs.zero_entry.Reads as zero-entry-reads
+use Rattle.log.proofs.empty_log.Reads as empty-log-reads
+use Rattle.log.proofs.same_entry.Reads as same-entry-reads
+use Rattle.log.proofs.length_of.Reads as length-of-reads
+use Rattle.log.proofs.entry_at.Reads as entry-at-reads
+use Rattle.log.proofs.last_term.Reads as last-term-reads
+use Rattle.log.proofs.time_at.Reads as time-at-reads
+use Rattle.log.proofs.applied_time.Reads as applied-time-reads
+use Rattle.log.proofs.equal_at.Reads as equal-at-reads
+use Rattle.log.proofs.common_beginning.Reads as common-beginning-reads
+use Rattle.log.proofs.is_beginning.Reads as is-beginning-reads
+use Rattle.log.proofs.append.Reads as append-reads
+use Rattle.log.proofs.join.Reads as join-reads
+use Rattle.log.proofs.latest_value.Reads as latest-value-reads
+use Rattle.log.proofs.entry_ok.Reads as entry-ok-reads
+use Rattle.log.proofs.place_ok.Reads as place-ok-reads
+use Rattle.log.proofs.in_order.Reads as in-order-reads
+use Rattle.log.proofs.rest_zero.Reads as rest-zero-reads
+use Rattle.log.proofs.log_ok.Reads as log-ok-reads
 
-pub zero-entry : OneResult zeroEntry
+pub zero-entry : OneResult (λ x. zero-entry-reads.Learnt tt tt x tt)
 zero-entry = one-result zeroEntry
 
-pub empty-log : OneResult emptyLog
+pub empty-log : OneResult (λ x. empty-log-reads.Learnt tt tt x tt)
 empty-log = one-result emptyLog
 
-pub same-entry : (d e : Entry) → OneResult (sameEntry d e)
+pub same-entry : (d e : Entry) → OneResult (λ x. same-entry-reads.Learnt tt (d, (e, tt)) x (d, (e, tt)))
 same-entry d e = one-result (sameEntry d e)
 
-pub length-of : (g : Log) → OneResult (lengthOf g)
+pub length-of : (g : Log) → OneResult (λ x. length-of-reads.Learnt tt (g, tt) x (g, tt))
 length-of g = one-result (lengthOf g)
 
-pub entry-at : (g : Log) (n : ℕ) → OneResult (entryAt (live g) n)
+pub entry-at : (g : Log) (n : ℕ) → OneResult (λ x. entry-at-reads.Learnt tt (g, (n, tt)) x (g, (n, tt)))
 entry-at g n = one-result (entryAt (live g) n)
 
-pub last-term : (g : Log) → OneResult (lastTerm (live g))
+pub last-term : (g : Log) → OneResult (λ x. last-term-reads.Learnt tt (g, tt) x (g, tt))
 last-term g = one-result (lastTerm (live g))
 
-pub time-at : (g : Log) (n : ℕ) → OneResult (entryAt (live g) n .time)
+pub time-at : (g : Log) (n : ℕ) → OneResult (λ x. time-at-reads.Learnt tt (g, (n, tt)) x (g, (n, tt)))
 time-at g n = one-result (entryAt (live g) n .time)
 
-pub applied-time : (g : Log) → OneResult (appliedTime (live g))
+pub applied-time : (g : Log) → OneResult (λ x. applied-time-reads.Learnt tt (g, tt) x (g, tt))
 applied-time g = one-result (appliedTime (live g))
 
-pub equal-at : (a b : Log) (n : ℕ) → OneResult (equalAt (live a) (live b) n)
+pub equal-at : (a b : Log) (n : ℕ) → OneResult (λ x. equal-at-reads.Learnt tt (a, (b, (n, tt))) x (a, (b, (n, tt))))
 equal-at a b n = one-result (equalAt (live a) (live b) n)
 
-pub common-beginning : (a b : Log) → OneResult (commonBeginning (live a) (live b))
+pub common-beginning : (a b : Log) → OneResult (λ x. common-beginning-reads.Learnt tt (a, (b, tt)) x (a, (b, tt)))
 common-beginning a b = one-result (commonBeginning (live a) (live b))
 
-pub is-beginning : (a b : Log) → OneResult (isBeginning (live a) (live b))
+pub is-beginning : (a b : Log) → OneResult (λ x. is-beginning-reads.Learnt tt (a, (b, tt)) x (a, (b, tt)))
 is-beginning a b = one-result (isBeginning (live a) (live b))
 
-pub append : (g : Log) (e : Entry) → OneResult (appended g e)
+pub append : (g : Log) (e : Entry) → OneResult (λ x. append-reads.Learnt tt (g, (e, tt)) x (g, (e, tt)))
 append g e = one-result (appended g e)
 
-pub join : (a b : Log) (k : ℕ) → OneResult (joined a b k)
+pub join : (a b : Log) (k : ℕ) → OneResult (λ x. join-reads.Learnt tt (a, (b, (k, tt))) x (a, (b, (k, tt))))
 join a b k = one-result (joined a b k)
 
-pub latest-value : (g : Log) (key n : ℕ) → OneResult (latestValue key (take n (live g)))
+pub latest-value : (g : Log) (key n : ℕ) → OneResult (λ x. latest-value-reads.Learnt tt (g, (key, (n, tt))) x (g, (key, (n, tt))))
 latest-value g key n = one-result (latestValue key (take n (live g)))
 
-pub entry-ok : (term : ℕ) (e : Entry) → OneResult (entryOk term e)
+pub entry-ok : (term : ℕ) (e : Entry) → OneResult (λ x. entry-ok-reads.Learnt tt (term, (e, tt)) x (term, (e, tt)))
 entry-ok term e = one-result (entryOk term e)
 
-pub place-ok : (term i : ℕ) (d e : Entry) → OneResult (placeOk term i d e)
+pub place-ok : (term i : ℕ) (d e : Entry) → OneResult (λ x. place-ok-reads.Learnt tt (term, (i, (d, (e, tt)))) x (term, (i, (d, (e, tt)))))
 place-ok term i d e = one-result (placeOk term i d e)
 
-pub in-order : (g : Log) (term : ℕ) → OneResult (inOrder term (live g))
+pub in-order : (g : Log) (term : ℕ) → OneResult (λ x. in-order-reads.Learnt tt (g, (term, tt)) x (g, (term, tt)))
 in-order g term = one-result (inOrder term (live g))
 
-pub rest-zero : (g : Log) (k : ℕ) → OneResult (restZero g k)
+pub rest-zero : (g : Log) (k : ℕ) → OneResult (λ x. rest-zero-reads.Learnt tt (g, (k, tt)) x (g, (k, tt)))
 rest-zero g k = one-result (restZero g k)
 
-pub log-ok : (g : Log) (term : ℕ) → OneResult (logOk term g)
+pub log-ok : (g : Log) (term : ℕ) → OneResult (λ x. log-ok-reads.Learnt tt (g, (term, tt)) x (g, (term, tt)))
 log-ok g term = one-result (logOk term g)

@@ -1,4 +1,4 @@
--- Any two results that a promise of this room allows are equal, one law for each public function. Assumes nothing.
+-- Each public function's contract allows one result, whatever the arguments. Assumes nothing.
 use Prim.Native.Nat.{ℕ, max}
 use Rattle.base.proofs.Results.{OneResult, one-result}
 use Rattle.log.specs.declared.Log.{Log}
@@ -6,30 +6,39 @@ use Rattle.cluster.specs.declared.Server.{Server}
 use Rattle.pairs.specs.Hears.{hearsOf, staysPrimary, takesCommit}
 use Rattle.pairs.specs.Pulls.{mayJoin, pullsOf, tookOf}
 use Rattle.pairs.specs.RollsBack.{rollsBackOf}
+use Rattle.pairs.proofs.greater_term.Reads as greater-term-reads
+use Rattle.pairs.proofs.greater.Reads as greater-reads
+use Rattle.pairs.proofs.hears.takes_commit.Reads as takes-commit-reads
+use Rattle.pairs.proofs.hears.stays_primary.Reads as stays-primary-reads
+use Rattle.pairs.proofs.hears.hears.Reads as hears-reads
+use Rattle.pairs.proofs.pulls.took.Reads as took-reads
+use Rattle.pairs.proofs.pulls.may_join.Reads as may-join-reads
+use Rattle.pairs.proofs.pulls.pulls.Reads as pulls-reads
+use Rattle.pairs.proofs.rolls_back.rolls_back.Reads as rolls-back-reads
 
-pub greater-term : (x y : ℕ) → OneResult (max x y)
-greater-term x y = one-result (max x y)
+pub greater-term : (m n : ℕ) → OneResult (λ x. greater-term-reads.Learnt tt (m, (n, tt)) x (m, (n, tt)))
+greater-term m n = one-result (max m n)
 
-pub greater : (x y : ℕ) → OneResult (max x y)
-greater x y = one-result (max x y)
+pub greater : (m n : ℕ) → OneResult (λ x. greater-reads.Learnt tt (m, (n, tt)) x (m, (n, tt)))
+greater m n = one-result (max m n)
 
-pub takes-commit : (s t : Server) → OneResult (takesCommit s t)
+pub takes-commit : (s t : Server) → OneResult (λ x. takes-commit-reads.Learnt tt (s, (t, tt)) x (s, (t, tt)))
 takes-commit s t = one-result (takesCommit s t)
 
-pub stays-primary : (s t : Server) → OneResult (staysPrimary s t)
+pub stays-primary : (s t : Server) → OneResult (λ x. stays-primary-reads.Learnt tt (s, (t, tt)) x (s, (t, tt)))
 stays-primary s t = one-result (staysPrimary s t)
 
-pub hears : (s t : Server) → OneResult (hearsOf s t)
+pub hears : (s t : Server) → OneResult (λ x. hears-reads.Learnt tt (s, (t, tt)) x (s, (t, tt)))
 hears s t = one-result (hearsOf s t)
 
-pub took : (s t : Server) (g : Log) → OneResult (tookOf s t g)
+pub took : (s t : Server) (g : Log) → OneResult (λ x. took-reads.Learnt tt (s, (t, (g, tt))) x (s, (t, (g, tt))))
 took s t g = one-result (tookOf s t g)
 
-pub may-join : (g h : Log) (n : ℕ) → OneResult (mayJoin g h n)
+pub may-join : (g h : Log) (n : ℕ) → OneResult (λ x. may-join-reads.Learnt tt (g, (h, (n, tt))) x (g, (h, (n, tt))))
 may-join g h n = one-result (mayJoin g h n)
 
-pub pulls : (s t : Server) → OneResult (pullsOf s t)
+pub pulls : (s t : Server) → OneResult (λ x. pulls-reads.Learnt tt (s, (t, tt)) x (s, (t, tt)))
 pulls s t = one-result (pullsOf s t)
 
-pub rolls-back : (s t : Server) → OneResult (rollsBackOf s t)
+pub rolls-back : (s t : Server) → OneResult (λ x. rolls-back-reads.Learnt tt (s, (t, tt)) x (s, (t, tt)))
 rolls-back s t = one-result (rollsBackOf s t)

@@ -1,4 +1,4 @@
--- Any two results that a promise of this room allows are equal, one law for each public function. Assumes nothing.
+-- Each public function's contract allows one result, whatever the arguments. Assumes nothing.
 use Prim.Native.Nat.{ℕ}
 use Rattle.base.proofs.Results.{OneResult, one-result}
 use Rattle.cluster.specs.declared.Cluster.{Cluster}
@@ -6,24 +6,31 @@ use Rattle.cluster.specs.declared.Server.{Server}
 use Rattle.steps.specs.declared.Step.{Step}
 use Rattle.rules.specs.One.{oneOf, pairOf, singleOf, untouchedOf}
 use Rattle.rules.specs.Rules.{coreOf, isStart, stepOf}
+use Rattle.rules.proofs.untouched.Reads as untouched-reads
+use Rattle.rules.proofs.one.Reads as one-reads
+use Rattle.rules.proofs.single.Reads as single-reads
+use Rattle.rules.proofs.pair.Reads as pair-reads
+use Rattle.rules.proofs.core.Reads as core-reads
+use Rattle.rules.proofs.is_start.Reads as is-start-reads
+use Rattle.rules.proofs.step.Reads as step-reads
 
-pub untouched : (s : Server) → OneResult (untouchedOf s)
+pub untouched : (s : Server) → OneResult (λ x. untouched-reads.Learnt tt (s, tt) x (s, tt))
 untouched s = one-result (untouchedOf s)
 
-pub one : (s t : Server) (kind : Step) → OneResult (oneOf s t kind)
+pub one : (s t : Server) (kind : Step) → OneResult (λ x. one-reads.Learnt tt (s, (t, (kind, tt))) x (s, (t, (kind, tt))))
 one s t kind = one-result (oneOf s t kind)
 
-pub single : (c : Cluster) (a : ℕ) (kind : Step) → OneResult (singleOf c a kind)
+pub single : (c : Cluster) (a : ℕ) (kind : Step) → OneResult (λ x. single-reads.Learnt tt (c, (a, (kind, tt))) x (c, (a, (kind, tt))))
 single c a kind = one-result (singleOf c a kind)
 
-pub pair : (c : Cluster) (a b : ℕ) (kind : Step) → OneResult (pairOf c a b kind)
+pub pair : (c : Cluster) (a b : ℕ) (kind : Step) → OneResult (λ x. pair-reads.Learnt tt (c, (a, (b, (kind, tt)))) x (c, (a, (b, (kind, tt)))))
 pair c a b kind = one-result (pairOf c a b kind)
 
-pub core : (c : Cluster) (kind : Step) → OneResult (coreOf c kind)
+pub core : (c : Cluster) (kind : Step) → OneResult (λ x. core-reads.Learnt tt (c, (kind, tt)) x (c, (kind, tt)))
 core c kind = one-result (coreOf c kind)
 
-pub is-start : (kind : Step) → OneResult (isStart kind)
+pub is-start : (kind : Step) → OneResult (λ x. is-start-reads.Learnt tt (kind, tt) x (kind, tt))
 is-start kind = one-result (isStart kind)
 
-pub step : (c : Cluster) (kind : Step) → OneResult (stepOf c kind)
+pub step : (c : Cluster) (kind : Step) → OneResult (λ x. step-reads.Learnt tt (c, (kind, tt)) x (c, (kind, tt)))
 step c kind = one-result (stepOf c kind)

@@ -1,4 +1,4 @@
--- Any two results that a promise of this room allows are equal, one law for each public function. Assumes nothing.
+-- Each public function's contract allows one result, whatever the arguments. Assumes nothing.
 use Prim.Native.Nat.{ℕ}
 use Rattle.base.proofs.Results.{OneResult, one-result}
 use Rattle.clock.specs.declared.Time.{Time}
@@ -9,24 +9,31 @@ use Rattle.singles.specs.Restarts.{restartsOf}
 use Rattle.singles.specs.StepsDown.{stepsDownOf}
 use Rattle.singles.specs.WallClock.{wallClockOf}
 use Rattle.singles.specs.Writes.{writesOf, writtenOf}
+use Rattle.singles.proofs.steps_down.steps_down.Reads as steps-down-reads
+use Rattle.singles.proofs.wall_clock.wall_clock.Reads as wall-clock-reads
+use Rattle.singles.proofs.restarts.restarts.Reads as restarts-reads
+use Rattle.singles.proofs.writes.writes.Reads as writes-reads
+use Rattle.singles.proofs.writes.written.Reads as written-reads
+use Rattle.singles.proofs.local_read.local_read.Reads as local-read-reads
+use Rattle.singles.proofs.majority_read.majority_read.Reads as majority-read-reads
 
-pub steps-down : (s : Server) → OneResult (stepsDownOf s)
+pub steps-down : (s : Server) → OneResult (λ x. steps-down-reads.Learnt tt (s, tt) x (s, tt))
 steps-down s = one-result (stepsDownOf s)
 
-pub wall-clock : (s : Server) → OneResult (wallClockOf s)
+pub wall-clock : (s : Server) → OneResult (λ x. wall-clock-reads.Learnt tt (s, tt) x (s, tt))
 wall-clock s = one-result (wallClockOf s)
 
-pub restarts : (s : Server) → OneResult (restartsOf s)
+pub restarts : (s : Server) → OneResult (λ x. restarts-reads.Learnt tt (s, tt) x (s, tt))
 restarts s = one-result (restartsOf s)
 
-pub writes : (s : Server) (key value : ℕ) → OneResult (writesOf s key value)
+pub writes : (s : Server) (key value : ℕ) → OneResult (λ x. writes-reads.Learnt tt (s, (key, (value, tt))) x (s, (key, (value, tt))))
 writes s key value = one-result (writesOf s key value)
 
-pub written : (s : Server) (key value : ℕ) (time : Time) → OneResult (writtenOf s key value time)
+pub written : (s : Server) (key value : ℕ) (time : Time) → OneResult (λ x. written-reads.Learnt tt (s, (key, (value, (time, tt)))) x (s, (key, (value, (time, tt)))))
 written s key value time = one-result (writtenOf s key value time)
 
-pub local-read : (s : Server) (key : ℕ) (asked : Time) → OneResult (localReadOf s key asked)
+pub local-read : (s : Server) (key : ℕ) (asked : Time) → OneResult (λ x. local-read-reads.Learnt tt (s, (key, (asked, tt))) x (s, (key, (asked, tt))))
 local-read s key asked = one-result (localReadOf s key asked)
 
-pub majority-read : (s : Server) (key : ℕ) (asked : Time) → OneResult (majorityReadOf s key asked)
+pub majority-read : (s : Server) (key : ℕ) (asked : Time) → OneResult (λ x. majority-read-reads.Learnt tt (s, (key, (asked, tt))) x (s, (key, (asked, tt))))
 majority-read s key asked = one-result (majorityReadOf s key asked)
