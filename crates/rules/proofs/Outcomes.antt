@@ -16,7 +16,7 @@ use Rattle.steps.specs.Answers.{refusingAll}
 use Rattle.steps.specs.Reasons.{Clear, Broken}
 use Rattle.steps.proofs.Decided.{clear-or-broken, decided-clear, decided-broken}
 use Rattle.rules.specs.Rules.{rowOf, rulesOf, doneOf, coreOf, isStart, stepOf}
-use Rattle.rules.specs.Statements.{Why, ill-formed, broken, isRefused}
+use Rattle.rules.specs.Statements.{Why, ill-formed, broken}
 
 -- ---- done or refused
 
@@ -53,6 +53,14 @@ step-cases c s = go (isStart s || wellFormed c) refl (clear-or-broken (rulesOf c
 
 -- ---- a refusal changes nothing
 
+abbrev pub isRefused : Answer → Bool
+isRefused A.Done = false
+isRefused (A.Elected term) = false
+isRefused (A.Reached n) = false
+isRefused (A.Entry n term time) = false
+isRefused (A.Value value time) = false
+isRefused (A.Refused r) = true
+
 -- what is done answers no refusal
 pub done-not-refused : (c : Cluster) (s : Step) → isRefused (doneOf c s .answer) ≡ false
 unfolding rowOf
@@ -72,8 +80,11 @@ done-not-refused c (Acknowledged a k n term) = refl
 done-not-refused c ClocksAgree = refl
 
 -- a step that answers a refusal is the refused one
+pub done-no-refusal : (c : Cluster) (s : Step) (r : Refusal) → doneOf c s .answer ≡ A.Refused r → ⊥
+done-no-refusal c s r e = not-both (isRefused (doneOf c s .answer)) (ap isRefused e) (done-not-refused c s)
+
 refused-case : (c : Cluster) (s : Step) (r : Refusal) → stepOf c s .answer ≡ A.Refused r → StepRefused c s
-refused-case c s r e = ⊎-elim (λ d. not-both (isRefused (stepOf c s .answer)) (ap isRefused e) (rw (d .is) (done-not-refused c s))) (λ d. d) (step-cases c s)
+refused-case c s r e = ⊎-elim (λ d. absurd (done-no-refusal c s r (sym (ap (λ (o : Outcome). o .answer) (d .is)) ∙ e))) (λ d. d) (step-cases c s)
 
 -- the record after a refusal is the record before, whatever that is
 pub refused-unchanged : (c : Cluster) (s : Step) (r : Refusal) → stepOf c s .answer ≡ A.Refused r → stepOf c s .cluster ≡ c

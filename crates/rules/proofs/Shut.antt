@@ -29,7 +29,7 @@ use Rattle.steps.specs.Answers.{refusingAll, tellingOf}
 use Rattle.singles.specs.Writes.{wroteOf}
 use Rattle.wholes.specs.Elects.{notBehind, mayVote, allMayVote}
 use Rattle.rules.specs.Rules.{rowOf, coreOf, stepOf}
-use Rattle.rules.specs.Statements.{isRefused}
+use Rattle.rules.proofs.Outcomes.{isRefused}
 use Rattle.rules.specs.Statements.{Program, Differs, refusesEach, saysOne, leavesAll, echoesLater}
 
 -- ---- an election and two reads that are allowed

@@ -24,14 +24,6 @@ pub data Why (c : Cluster) (s : Step) : Refusal → Type 0 where
   ill-formed : (isStart s || wellFormed c) ≡ false → Why c s IllFormed
   broken : {r : Refusal} → (isStart s || wellFormed c) ≡ true → Broken (rulesOf c s) r → Why c s r
 
-abbrev pub isRefused : Answer → Bool
-isRefused A.Done = false
-isRefused (A.Elected term) = false
-isRefused (A.Reached n) = false
-isRefused (A.Entry n term time) = false
-isRefused (A.Value value time) = false
-isRefused (A.Refused r) = true
-
 -- kind 12 alone asks about refusal 10 before 8
 abbrev pub OfKind12 : Step → Type 0
 OfKind12 s = (a : ℕ) × (k : ℕ) × (n : ℕ) × (term : ℕ) × (s ≡ Acknowledged a k n term)

@@ -2,7 +2,7 @@
 -- Assumes nothing.
 use mathlib.Core.Path.{_≡_, refl, ap, sym, _∙_}
 use mathlib.Core.Bool.{true, false}
-use mathlib.Core.Logic.{by-cases}
+use mathlib.Core.Logic.{by-cases, ⊎-elim}
 use mathlib.Core.List.{List, [], _∷_}
 use Prim.Native.Nat.{ℕ, _<_, _≤_}
 use native.Mathlib.Decide.{decLe}
@@ -31,6 +31,7 @@ use Rattle.steps.specs.declared.Answer.the-variants.{Value, Refused}
 use Rattle.steps.specs.declared.Refusal.{Refusal}
 use Rattle.steps.specs.declared.Outcome.{Outcome}
 use Rattle.singles.specs.MajorityRead.{commitTime, covered}
+use Rattle.rules.proofs.Outcomes.{StepDone, step-cases}
 use Rattle.rules.specs.Rules.{rowOf, stepOf}
 use Rattle.rules.proofs.Keeps.{step-fits}
 use Rattle.safety.specs.Cluster.{Holds}
@@ -44,7 +45,7 @@ use Rattle.safety.proofs.Time.{stamp-before, not-before-stamp}
 use Rattle.safety.proofs.Joins.{walk-on, commit-within}
 use Rattle.safety.proofs.Demand3.{demand3}
 use Rattle.safety.proofs.Views.{fresh-seen, fits-time, same-entry, holds-beginning}
-use Rattle.safety.proofs.Stepped.{Comes, comes, done, ill, broken, Now, step-next, never-9}
+use Rattle.safety.proofs.Stepped.{Now, step-next, never-9}
 
 -- ---- a read that is answered
 
@@ -79,7 +80,7 @@ record Answered (c : Cluster) (q key : ℕ) (asked : Time) (v : ℕ) : Type 0 wh
 
 answered : (c : Cluster) (q key : ℕ) (asked : Time) (v : ℕ) (t : Time) → stepOf c (MajorityRead q key asked) .answer ≡ Value v t → Answered c q key asked v
 unfolding rowOf
-answered c q key asked v t a = go (comes c (MajorityRead q key asked))
+answered c q key asked v t a = ⊎-elim is-done (λ d. refused (answers (d .is))) (step-cases c (MajorityRead q key asked))
   where
     answers : {o : Outcome} → stepOf c (MajorityRead q key asked) ≡ o → o .answer ≡ Value v t
     answers e = sym (ap (λ (o : Outcome). o .answer) e) ∙ a
@@ -87,10 +88,8 @@ answered c q key asked v t a = go (comes c (MajorityRead q key asked))
     refused : {r : Refusal} → _≡_ {A = Answer} (Refused r) (Value v t) → Answered c q key asked v
     refused e = let z : _≡_ {A = ℕ} 0 1 = cc in absurd (omega arith)
 
-    go : Comes c (MajorityRead q key asked) → Answered c q key asked v
-    go (done wf h e) = record { below = h .0; reached = not-true _ (h .1 .1 .0); value = cc (answers e) }
-    go (ill e) = refused (answers e)
-    go (broken r wf b e) = refused (answers e)
+    is-done : StepDone c (MajorityRead q key asked) → Answered c q key asked v
+    is-done d = record { below = d .clear .0; reached = not-true _ (d .clear .1 .1 .0); value = cc (answers (d .is)) }
 
 -- ---- what is covered once
 

@@ -25,8 +25,7 @@ use Rattle.cluster.specs.Servers.{serverCount, serverAt, withServer}
 use Rattle.cluster.proofs.Good.{Good}
 use Rattle.steps.specs.declared.Step.the-variants.{Pulls, RollsBack}
 use Rattle.steps.specs.declared.Refusal.the-variants.{BelowCommitPoint}
-use Rattle.steps.specs.Reasons.{Broken, later}
-use Rattle.steps.proofs.Decided.{here as broken-here}
+use Rattle.steps.specs.Reasons.{Broken, later, here as broken-here}
 use Rattle.pairs.specs.Pulls.{tookOf}
 use Rattle.pairs.specs.RollsBack.{common, rollRules}
 use Rattle.rules.specs.Rules.{rowOf, bothInRange}

@@ -1,12 +1,11 @@
 -- Each step that is done is a step of the theory; a refused one changes nothing; and refusal 9 is never given.
 -- Assumes nothing.
 use mathlib.Core.Path.{_≡_, refl, ap, sym, _∙_, subst}
-use mathlib.Core.Bool.{Bool, true, false, _||_}
-use mathlib.Core.Logic.{_≢_, _⊎_, inl, inr}
+use mathlib.Core.Bool.{true, _||_}
+use mathlib.Core.Logic.{_≢_, ⊎-elim}
 use mathlib.Core.List.{[], _∷_}
 use Prim.Native.Nat.{ℕ, _<_, _≤_}
 use native.Mathlib.Omega.{arith}
-use Rattle.base.proofs.Bools.{not-both}
 use Rattle.cluster.specs.declared.Cluster.{Cluster}
 use Rattle.cluster.specs.Ranges.{Fits}
 use Rattle.cluster.specs.Servers.{mostServers, serverCount, freshCluster}
@@ -15,16 +14,15 @@ use Rattle.cluster.proofs.Good.{good}
 use Rattle.steps.specs.declared.Step.{Step}
 use Rattle.steps.specs.declared.Step.the-variants.{Start, Elect, StepDown, Hears, Pulls, RollsBack, Writes, Advances, WallClock, Restarts, LocalRead, MajorityRead, Acknowledged, ClocksAgree}
 use Rattle.steps.specs.declared.Refusal.{Refusal}
-use Rattle.steps.specs.declared.Refusal.the-variants.{IllFormed, BelowCommitPoint}
-use Rattle.steps.specs.declared.Answer.{Answer}
-use Rattle.steps.specs.declared.Answer.the-variants.{Done, Elected, Reached, Entry, Value, Refused}
+use Rattle.steps.specs.declared.Refusal.the-variants.{BelowCommitPoint}
+use Rattle.steps.specs.declared.Answer.the-variants.{Done, Refused}
 use Rattle.steps.specs.declared.Outcome.{Outcome}
 use Rattle.steps.specs.Ranges.{FitsStep}
 use Rattle.steps.specs.Refusals.{refusalNumber, Rules}
-use Rattle.steps.specs.Answers.{refusingAll}
 use Rattle.steps.specs.Reasons.{Clear, Broken, here, later}
-use Rattle.steps.proofs.Decided.{clear-or-broken, decided-clear, decided-broken}
-use Rattle.rules.specs.Rules.{rowOf, rulesOf, doneOf, coreOf, isStart, stepOf}
+use Rattle.rules.specs.Rules.{rowOf, rulesOf, doneOf, isStart, stepOf}
+use Rattle.rules.specs.Statements.{Why, ill-formed, broken}
+use Rattle.rules.proofs.Outcomes.{StepDone, step-cases, refused-why}
 use Rattle.safety.specs.Quorum.{Quorums, Majority}
 use Rattle.safety.specs.Steps.{Goes, Walk}
 use Rattle.safety.specs.View.{view}
@@ -35,26 +33,6 @@ use Rattle.safety.proofs.SeenQuiet.{sees-down, sees-restart, sees-hears
 use Rattle.safety.proofs.SeenTakes.{sees-pull, sees-roll, roll-not-9}
 use Rattle.safety.proofs.SeenWrites.{sees-write}
 use Rattle.safety.proofs.SeenMajorities.{sees-elect, sees-advance}
-
--- ---- a step is done or refused
-
--- what a step came to
-pub data Comes (c : Cluster) (s : Step) : Type 0 where
-  done : (isStart s || wellFormed c) ≡ true → Clear (rulesOf c s) → stepOf c s ≡ doneOf c s → Comes c s
-  ill : stepOf c s ≡ refusingAll c IllFormed → Comes c s
-  broken : (r : Refusal) → (isStart s || wellFormed c) ≡ true → Broken (rulesOf c s) r → stepOf c s ≡ refusingAll c r → Comes c s
-
-pub comes : (c : Cluster) (s : Step) → Comes c s
-unfolding stepOf coreOf
-comes c s = go (isStart s || wellFormed c) refl (clear-or-broken (rulesOf c s))
-  where
-    open-step : (isStart s || wellFormed c) ≡ true → stepOf c s ≡ coreOf c s
-    open-step e = rw e
-
-    go : (b : Bool) → (isStart s || wellFormed c) ≡ b → Clear (rulesOf c s) ⊎ ((r : Refusal) × Broken (rulesOf c s) r) → Comes c s
-    go true e (inl h) = done e h (open-step e ∙ decided-clear (refusingAll c) (doneOf c s) (rulesOf c s) h)
-    go true e (inr h) = broken (h .0) e (h .1) (open-step e ∙ decided-broken (refusingAll c) (doneOf c s) (h .1))
-    go false e h = ill (rw e)
 
 -- ---- the steps
 
@@ -99,15 +77,13 @@ module _ {n : ℕ} {some : 0 < n} {c : Cluster} (now : Now n some c) where
   done-next ClocksAgree f no-start wf h = record { goes = sees-agree c h; counted = refl }
 
   pub step-next : (s : Step) → FitsStep s → (isStart s ≡ true → stepOf c s .answer ≢ Done) → Next (majorities n some) c (stepOf c s .cluster)
-  step-next s f no-start = go (comes c s)
+  step-next s f no-start = ⊎-elim is-done (λ d. by (d .is) same-next) (step-cases c s)
     where
       by : {o : Outcome} → stepOf c s ≡ o → Next (majorities n some) c (o .cluster) → Next (majorities n some) c (stepOf c s .cluster)
       by e x = subst (λ (o : Outcome). Next (majorities n some) c (o .cluster)) (sym e) x
 
-      go : Comes c s → Next (majorities n some) c (stepOf c s .cluster)
-      go (done wf h e) = by e (done-next s f (λ q d. no-start q (ap (λ (o : Outcome). o .answer) e ∙ d)) wf h)
-      go (ill e) = by e same-next
-      go (broken r wf b e) = by e same-next
+      is-done : StepDone c s → Next (majorities n some) c (stepOf c s .cluster)
+      is-done d = by (d .is) (done-next s f (λ q a. no-start q (ap (λ (o : Outcome). o .answer) (d .is) ∙ a)) (d .seen) (d .clear))
 
 -- ---- refusal 9
 
@@ -119,32 +95,6 @@ No9 (r ∷ rs) = (refusalNumber (r .1) ≢ 9) × No9 rs
 not-broken : {rs : Rules} {r : Refusal} → No9 rs → Broken rs r → refusalNumber r ≢ 9
 not-broken n (here e) = n .0
 not-broken n (later e b) = not-broken (n .1) b
-
--- an answer is a refusal
-abbrev isRefused : Answer → Bool
-isRefused Done = false
-isRefused (Elected term) = false
-isRefused (Reached n) = false
-isRefused (Entry n term time) = false
-isRefused (Value value time) = false
-isRefused (Refused r) = true
-
-done-answers : (c : Cluster) (s : Step) → isRefused (doneOf c s .answer) ≡ false
-unfolding rowOf
-done-answers c (Start k) = refl
-done-answers c (Elect a m) = refl
-done-answers c (StepDown a) = refl
-done-answers c (Hears a b) = refl
-done-answers c (Pulls a b) = refl
-done-answers c (RollsBack a b) = refl
-done-answers c (Writes a key value) = refl
-done-answers c (Advances a) = refl
-done-answers c (WallClock a) = refl
-done-answers c (Restarts a) = refl
-done-answers c (LocalRead a key asked) = refl
-done-answers c (MajorityRead a key asked) = refl
-done-answers c (Acknowledged a k m term) = refl
-done-answers c ClocksAgree = refl
 
 module _ {n : ℕ} {some : 0 < n} {c : Cluster} (now : Now n some c) where
   broken-9 : (s : Step) → (isStart s || wellFormed c) ≡ true → Broken (rulesOf c s) BelowCommitPoint → ⊥
@@ -165,12 +115,8 @@ module _ {n : ℕ} {some : 0 < n} {c : Cluster} (now : Now n some c) where
   broken-9 ClocksAgree wf b = not-broken tt b refl
 
   pub never-9 : (s : Step) → stepOf c s .answer ≢ Refused BelowCommitPoint
-  never-9 s nine = go (comes c s)
+  never-9 s nine = go (refused-why c s BelowCommitPoint nine) refl
     where
-      answers : {o : Outcome} → stepOf c s ≡ o → o .answer ≡ Refused BelowCommitPoint
-      answers e = sym (ap (λ (o : Outcome). o .answer) e) ∙ nine
-
-      go : Comes c s → ⊥
-      go (done wf h e) = not-both (isRefused (doneOf c s .answer)) (ap isRefused (answers e)) (done-answers c s)
-      go (ill e) = let q : IllFormed ≡ BelowCommitPoint = cc (answers e) in let z : _≡_ {A = ℕ} 0 1 = cc in omega arith
-      go (broken r wf b e) = let q : r ≡ BelowCommitPoint = cc (answers e) in broken-9 s wf (rw q at b)
+      go : {r : Refusal} → Why c s r → r ≡ BelowCommitPoint → ⊥
+      go (ill-formed e) q = let z : _≡_ {A = ℕ} 0 1 = cc in omega arith
+      go (broken wf b) q = broken-9 s wf (rw q at b)

@@ -16,16 +16,16 @@ const PIECE: usize = 16384;
 const ROOM: usize = PIECE * replay::ANSWER_LINE;
 
 // How a turn ended: there may be more to read, or it is over for one of three reasons.
-enum End {
+pub enum End {
     More,
     Input,
     CannotRead,
     CannotWrite,
 }
 
-struct Drained {
-    session: Session,
-    end: End,
+pub struct Drained {
+    pub session: Session,
+    pub end: End,
 }
 
 // Writes the first n bytes of the buffer to standard output, and says whether that went well.

@@ -1,0 +1,255 @@
+-- The page of claims: whatever README and docs/DEMANDS.md say is proved, stated in full beside the theorem that has it. A theorem that
+-- says less, or is gone, is refused here. The words that it is stated in are definitions of specs/. Assumes nothing.
+use contract.Lifetimes.{Lfts}
+use denote.Ref.{RefT, now}
+use mathlib.Core.Path.{_≡_}
+use mathlib.Core.Bool.{true, false, _||_}
+use mathlib.Core.List.{List, _++_}
+use Prim.Native.Nat.{ℕ, _≤_}
+use lib.ListN.{length}
+use Rattle.base.proofs.Results.{OneResult, OneOutcome}
+use Rattle.cluster.specs.declared.Cluster.{Cluster}
+use Rattle.cluster.specs.Ranges.{Fits}
+use Rattle.cluster.specs.Servers.{serverAt, freshCluster, fewestServers, mostServers}
+use Rattle.cluster.specs.WellFormed.{wellFormed}
+use Rattle.cluster.proofs.Fresh.{well-formed-fresh, fits-fresh}
+use Rattle.steps.specs.declared.Answer.{Answer}
+use Rattle.steps.specs.declared.Answer.the-variants as A
+use Rattle.steps.specs.declared.Outcome.{Outcome}
+use Rattle.steps.specs.declared.Refusal.{Refusal}
+use Rattle.steps.specs.declared.Refusal.the-variants.{IllFormed}
+use Rattle.steps.specs.declared.Step.{Step}
+use Rattle.steps.specs.declared.Telling.{Telling}
+use Rattle.steps.specs.Answers.{refusingAll}
+use Rattle.steps.specs.Ranges.{FitsStep}
+use Rattle.steps.specs.Reasons.{Clear, Broken, Applies}
+use Rattle.steps.specs.Refusals.{refusalNumber}
+use Rattle.rules.specs.Rules.{isStart, rulesOf, doneOf, stepOf}
+use Rattle.rules.specs.Statements.{Why, OfKind12, touches, Differs, refusesEach, saysOne, leavesAll, echoesLater}
+use Rattle.rules.proofs.step.Reads as step-contract
+use Rattle.rules.proofs.Outcomes as outcomes
+use Rattle.rules.proofs.Lowest as lowest
+use Rattle.rules.proofs.Others as others
+use Rattle.rules.proofs.Keeps as keeps
+use Rattle.rules.proofs.Shut as shut
+use Rattle.rules.proofs.Results as rules-results
+use Rattle.frames.specs.declared.ReadStep.{ReadStep}
+use Rattle.frames.specs.declared.ReadStep.the-variants as R
+use Rattle.frames.specs.Steps.{readStep, writeStep}
+use Rattle.frames.proofs.read_step.Reads as read-step-contract
+use Rattle.frames.proofs.write_step.Reads as write-step-contract
+use Rattle.frames.proofs.Steps as frames
+use Rattle.frames.proofs.Results as frames-results
+use Rattle.answers.specs.declared.ReadAnswer.{ReadAnswer}
+use Rattle.answers.specs.declared.ReadAnswer.the-variants as T
+use Rattle.answers.specs.Answers.{readAnswer, writeAnswer, writeTelling}
+use Rattle.answers.specs.Ranges.{FitsTelling}
+use Rattle.answers.proofs.read_answer.Reads as read-answer-contract
+use Rattle.answers.proofs.write_answer.Reads as write-answer-contract
+use Rattle.answers.proofs.Answers as tellings
+use Rattle.answers.proofs.Results as answers-results
+use Rattle.fits.proofs.record_fits.Reads as record-fits-contract
+use Rattle.fits.proofs.step_fits.Reads as step-fits-contract
+use Rattle.replay.specs.declared.Fed.{Fed}
+use Rattle.replay.specs.declared.Finished.{Finished}
+use Rattle.replay.specs.declared.Session.{Session}
+use Rattle.replay.specs.Texts.{answers, leaves, answerTo}
+use Rattle.replay.specs.Pieces.{begun, together, runsAll, saysAll, ending, ended, fedOf, fedOut, finishOf, finishOut}
+use Rattle.replay.proofs.feed.Reads as feed-contract
+use Rattle.replay.proofs.finish.Reads as finish-contract
+use Rattle.replay.proofs.Refused as refused
+use Rattle.replay.proofs.Whole as whole
+use Rattle.replay.proofs.Results as replay-results
+use Rattle.shell.specs.declared.Drained.{Drained}
+use Rattle.shell.specs.Loop.{Drains}
+use Rattle.shell.proofs.Loop as loop
+use Rattle.safety.specs.Promise.{Promised}
+use Rattle.safety.proofs.Promise as safety
+use Rattle.demand3.specs.Promise.{PromisedInTexts, Never9InTexts, Never9Written, EveryRun}
+use Rattle.demand3.proofs.Promise as lines
+use Rattle.demand3.proofs.Never9 as never-9
+use Rattle.demand3.proofs.Written as written
+use Rattle.demand3.proofs.Runs as runs
+use Rattle.twelve.specs.Table.{all, rowHolds, table}
+use Rattle.twelve.proofs.Twelve as twelve
+
+-- ---- demands 1 and 2: the step
+
+-- the step that runs is 01's, for every record and every step
+pub step-is : (c : Cluster) (s : Step) (r : Outcome) → step-contract.Learnt tt (c, (s, tt)) r (c, (s, tt)) → r ≡ stepOf c s
+step-is c s r e = e
+
+-- allowed, so done, and what is done is no refusal
+pub allowed-is-done : (c : Cluster) (s : Step) → (isStart s || wellFormed c) ≡ true → Clear (rulesOf c s) → stepOf c s ≡ doneOf c s
+allowed-is-done = outcomes.step-done
+
+pub done-is-no-refusal : (c : Cluster) (s : Step) (r : Refusal) → doneOf c s .answer ≡ A.Refused r → ⊥
+done-is-no-refusal = outcomes.done-no-refusal
+
+-- forbidden, so refused
+pub forbidden-is-refused : (c : Cluster) (s : Step) (r : Refusal) → (isStart s || wellFormed c) ≡ true → Broken (rulesOf c s) r
+    → stepOf c s ≡ refusingAll c r
+forbidden-is-refused = outcomes.step-refused
+
+pub ill-formed-is-refused : (c : Cluster) (s : Step) → (isStart s || wellFormed c) ≡ false → stepOf c s ≡ refusingAll c IllFormed
+ill-formed-is-refused = outcomes.step-ill-formed
+
+-- refused, so forbidden: by the first rule that is broken
+pub refused-for-its-reason : (c : Cluster) (s : Step) (r : Refusal) → stepOf c s .answer ≡ A.Refused r → Why c s r
+refused-for-its-reason = outcomes.refused-why
+
+-- and that is the lowest number that applies, but for kind 12, where 01 itself asks for 10 before 8
+pub lowest-refusal : (c : Cluster) (s : Step) → (OfKind12 s → ⊥) → (r : Refusal) → stepOf c s .answer ≡ A.Refused r → (q : Refusal)
+    → Applies (rulesOf c s) q → refusalNumber r ≤ refusalNumber q
+lowest-refusal = lowest.lowest-given
+
+-- a refusal changes nothing, of a step or of a line
+pub refusal-changes-nothing : (c : Cluster) (s : Step) (r : Refusal) → stepOf c s .answer ≡ A.Refused r → stepOf c s .cluster ≡ c
+refusal-changes-nothing = outcomes.refused-unchanged
+
+pub refused-line-changes-nothing : (c : Cluster) (line : List ℕ) (r : Refusal) → answerTo c line .answer ≡ A.Refused r → answerTo c line .cluster ≡ c
+refused-line-changes-nothing = refused.refused-line
+
+-- what a row doesn't name is unchanged
+pub others-unchanged : (c : Cluster) (s : Step) (i : ℕ) → touches c s i ≡ false → serverAt (stepOf c s .cluster) i ≡ serverAt c i
+others-unchanged = others.others-unchanged
+
+pub count-unchanged : (c : Cluster) (s : Step) → isStart s ≡ false → stepOf c s .cluster .count ≡ c .count
+count-unchanged = others.count-unchanged
+
+-- a step keeps a record well formed and in the types' ranges; the fresh cluster is both
+pub step-keeps-well-formed : (c : Cluster) (s : Step) → Fits c → FitsStep s → wellFormed c ≡ true → wellFormed (stepOf c s .cluster) ≡ true
+step-keeps-well-formed = keeps.step-well-formed
+
+pub step-keeps-ranges : (c : Cluster) (s : Step) → Fits c → FitsStep s → Fits (stepOf c s .cluster)
+step-keeps-ranges = keeps.step-fits
+
+pub fresh-is-well-formed : (n : ℕ) → fewestServers ≤ n → n ≤ mostServers → wellFormed (freshCluster n) ≡ true
+fresh-is-well-formed = well-formed-fresh
+
+pub fresh-is-in-range : (n : ℕ) → n ≤ mostServers → Fits (freshCluster n)
+fresh-is-in-range = fits-fresh
+
+-- every record and every step of the types is in range
+pub records-fit : (c : Cluster) → record-fits-contract.Learnt tt (c, tt) true (c, tt) → Fits c
+records-fit c e = e .1
+
+pub steps-fit : (s : Step) → step-fits-contract.Learnt tt (s, tt) true (s, tt) → FitsStep s
+steps-fit s e = e .1
+
+-- the four programs that 01 wants shut out differ from the step
+pub refusing-every-step-differs : (r : Refusal) → Differs (refusesEach r)
+refusing-every-step-differs = shut.refuses-each
+
+pub one-answer-differs : (a : Answer) → Differs (saysOne a)
+one-answer-differs = shut.says-one
+
+pub leaving-the-record-differs : Differs leavesAll
+leaving-the-record-differs = shut.leaves-all
+
+pub echoing-later-differs : Differs echoesLater
+echoing-later-differs = shut.echoes-later
+
+-- 01's twelve
+pub the-twelve-hold : all rowHolds table ≡ true
+the-twelve-hold = twelve.all-hold
+
+-- ---- demand 2: one fixed layout
+
+-- the frames that are read and written are those of the layout
+pub read-step-is : (κs : Lfts 1) (line : RefT (List ℕ)) (r : ReadStep) → read-step-contract.Learnt κs (line, tt) r (line, tt) → r ≡ readStep (now line)
+read-step-is κs line r e = e
+
+pub write-step-is : (s : Step) (r : List ℕ) → write-step-contract.Learnt tt (s, tt) r (s, tt) → r ≡ writeStep s
+write-step-is s r e = e
+
+pub read-answer-is : (κs : Lfts 1) (line : RefT (List ℕ)) (r : ReadAnswer) → read-answer-contract.Learnt κs (line, tt) r (line, tt)
+    → r ≡ readAnswer (now line)
+read-answer-is κs line r e = e
+
+pub write-answer-is : (a : Answer) (r : List ℕ) → write-answer-contract.Learnt tt (a, tt) r (a, tt) → r ≡ writeAnswer a
+write-answer-is a r e = e
+
+-- reading a written frame gives it back, and one step, or one answer, has one frame
+pub step-round-trip : (s : Step) → FitsStep s → readStep (writeStep s) ≡ R.Step s
+step-round-trip = frames.read-written-step
+
+pub one-frame-a-step : (line : List ℕ) (s : Step) → readStep line ≡ R.Step s → writeStep s ≡ line
+one-frame-a-step = frames.written-read-step
+
+pub answer-round-trip : (t : Telling) → FitsTelling t → readAnswer (writeTelling t) ≡ T.Telling t
+answer-round-trip = tellings.read-written-telling
+
+pub one-frame-an-answer : (line : List ℕ) (t : Telling) → readAnswer line ≡ T.Telling t → writeTelling t ≡ line
+one-frame-an-answer = tellings.written-read-telling
+
+-- ---- demand 1: any text
+
+-- a piece of a text, and its end, are answered as defined, whatever the buffer
+pub feed-is : (κs : Lfts 2) (s : Session) (text out o : RefT (List ℕ)) (r : Fed) → feed-contract.Learnt κs (s, (text, (out, tt))) r (s, (text, (o, tt)))
+    → (r ≡ fedOf s (now text) (length (now out))) × (now o ≡ fedOut s (now text) (now out))
+feed-is κs s text out o r e = e
+
+pub finish-is : (κs : Lfts 1) (s : Session) (out o : RefT (List ℕ)) (r : Finished) → finish-contract.Learnt κs (s, (out, tt)) r (s, (o, tt))
+    → (r ≡ finishOf s (length (now out))) × (now o ≡ finishOut s (now out))
+finish-is κs s out o r e = e
+
+-- however a text is cut, what is said with the end is its answers, and the record is the one that it leaves
+pub any-pieces-say : (c : Cluster) (xs : List (List ℕ)) → saysAll (begun c) xs ++ ending (runsAll (begun c) xs) ≡ answers c (together xs)
+any-pieces-say = whole.any-pieces
+
+pub any-pieces-leave : (c : Cluster) (xs : List (List ℕ)) → ended (runsAll (begun c) xs) ≡ leaves c (together xs)
+any-pieces-leave = whole.any-pieces-record
+
+-- the program's loop goes through some pieces, whose answers and record those are
+pub program-says : (c : Cluster) (r : Drained) (d : Drains (begun c) r) → saysAll (begun c) (d .pieces) ++ ending (r .session) ≡ answers c (together (d .pieces))
+program-says = loop.drained-says
+
+pub program-leaves : (c : Cluster) (r : Drained) (d : Drains (begun c) r) → ended (r .session) ≡ leaves c (together (d .pieces))
+program-leaves = loop.drained-record
+
+-- ---- demand 3
+
+-- over steps, and over the lines of any text
+pub demand-3-over-steps : Promised
+demand-3-over-steps = safety.demand-3
+
+pub demand-3-over-lines : PromisedInTexts
+demand-3-over-lines = lines.demand-3-text
+
+-- refusal 9 is never given to a line of any text, nor written
+pub refusal-9-is-never-given : Never9InTexts
+refusal-9-is-never-given = never-9.never-9-text
+
+pub refusal-9-is-never-written : Never9Written
+refusal-9-is-never-written = written.never-9-written
+
+-- nothing of the promise over steps is lost over lines: every run of steps is a text
+pub every-run-is-a-text : EveryRun
+every-run-is-a-text = runs.every-run
+
+-- ---- a contract decides its result
+
+-- any two results that a contract allows are equal, and so are the buffers that were lent: of the functions that a text goes through.
+-- Each room's own proofs/Results.antt has this of every public function
+pub step-decides : (c : Cluster) (s : Step) → OneResult (λ r. step-contract.Learnt tt (c, (s, tt)) r (c, (s, tt)))
+step-decides = rules-results.step
+
+pub read-step-decides : (κs : Lfts 1) (line : RefT (List ℕ)) → OneResult (λ r. read-step-contract.Learnt κs (line, tt) r (line, tt))
+read-step-decides = frames-results.read-step
+
+pub write-step-decides : (s : Step) → OneResult (λ r. write-step-contract.Learnt tt (s, tt) r (s, tt))
+write-step-decides = frames-results.write-step
+
+pub read-answer-decides : (κs : Lfts 1) (line : RefT (List ℕ)) → OneResult (λ r. read-answer-contract.Learnt κs (line, tt) r (line, tt))
+read-answer-decides = answers-results.read-answer
+
+pub write-answer-decides : (a : Answer) → OneResult (λ r. write-answer-contract.Learnt tt (a, tt) r (a, tt))
+write-answer-decides = answers-results.write-answer
+
+pub feed-decides : (κs : Lfts 2) (s : Session) (text out : RefT (List ℕ))
+    → OneOutcome (λ r o. feed-contract.Learnt κs (s, (text, (out, tt))) r (s, (text, (o, tt))))
+feed-decides = replay-results.feed
+
+pub finish-decides : (κs : Lfts 1) (s : Session) (out : RefT (List ℕ)) → OneOutcome (λ r o. finish-contract.Learnt κs (s, (out, tt)) r (s, (o, tt)))
+finish-decides = replay-results.finish
