@@ -28,7 +28,7 @@ use Rattle.steps.specs.declared.Refusal.the-variants.{BelowCommitPoint}
 use Rattle.steps.proofs.Decided.{Broken, here as broken-here, later}
 use Rattle.pairs.specs.Pulls.{tookOf}
 use Rattle.pairs.specs.RollsBack.{common, rollRules}
-use Rattle.rules.specs.Rules.{rowOf, apart}
+use Rattle.rules.specs.Rules.{rowOf, bothInRange}
 use Rattle.safety.specs.Quorum.{Quorums}
 use Rattle.safety.specs.Cluster.{Agree, ServerSeen, Seen}
 use Rattle.safety.specs.Steps.{Copies, pulls, rollsBack, Goes, takes, Fresh, Walk}
@@ -114,6 +114,6 @@ module _ {𝓠 : Quorums} {u : Seen} (c : Cluster) (f : Fits c) (g : Good c) (st
       (omega (arith, tidy-length (tidy-at c g a la), g .counted a (omega (arith, ltb-true a (serverCount c) la)) .commit-point))
       (no-refusal-9 start w a b (rollsBack (ltb-true _ _ h)))
 
-  pub roll-not-9 : (a b : ℕ) → Broken (apart c a b (rollRules (serverAt c a) (serverAt c b))) BelowCommitPoint → ⊥
+  pub roll-not-9 : (a b : ℕ) → Broken (bothInRange c a b (rollRules (serverAt c a) (serverAt c b))) BelowCommitPoint → ⊥
   roll-not-9 a b (later la (later lb (later ab (later secondary (later some (later low (later other (broken-here e)))))))) =
       omega (arith, common-covers a b la lb low, leb-false (serverAt c a .commit) (common (serverAt c a) (serverAt c b)) e)
