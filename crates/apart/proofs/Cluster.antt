@@ -12,7 +12,7 @@ use Rattle.log.specs.Order.{entryOk, follows, placeOk, inOrder, restZero, logOk
 use Rattle.cluster.specs.Servers.{mostServers, zeroServer, freshServer, zeroCluster, startedOf, freshCluster, serverAt, withServer, votedOf, electedAll, clockedOf, clocksSet}
 use Rattle.cluster.specs.Sets.{member, membersOf, isWithin, isMajority}
 use Rattle.cluster.specs.WellFormed.{numbersOk, countedOk, zeroOk, serverOk, wellFormed}
-use Rattle.apart.proofs.Things.{at, x, server, holder, leader, clocked, timed, two, F2}
+use Rattle.apart.proofs.Things.{at, x, server, holder, leader, covering, clocked, timed, two, F2}
 
 pub fresh-server-with-wall-clock-0 : freshServer .wall ≡ 1
 fresh-server-with-wall-clock-0 = refl
@@ -48,6 +48,10 @@ with-server-replaces-0 = refl
 pub with-server-raises-the-count : withServer F2 2 freshServer .count ≡ 2
 with-server-raises-the-count = refl
 
+pub lower-voters-are-primary : votedOf 1 3 1 0 freshServer .primary ≡ false
+unfolding member votedOf
+lower-voters-are-primary = refl
+
 pub voted-gives-everybody-the-term : votedOf 0 1 1 1 freshServer .term ≡ 0
 unfolding member votedOf
 voted-gives-everybody-the-term = refl
@@ -71,6 +75,10 @@ clocks-sets-0-alone = refl
 pub clocks-sets-all-seven : serverAt (clocksSet F2 5) 2 .wall ≡ 0
 unfolding eachFrom startedOf clockedOf
 clocks-sets-all-seven = refl
+
+pub commit-point-below-the-length : numbersOk (covering (x ∷ [])) ≡ true
+unfolding numbersOk
+commit-point-below-the-length = refl
 
 pub counted-without-the-time : countedOk (holder 1 (x ∷ [])) ≡ false
 unfolding every isBefore sameTime sameEntry entryAt entryOk follows placeOk inOrder restZero logOk countedOk
@@ -123,6 +131,10 @@ within-takes-the-first-past = refl
 pub within-by-the-lowest-alone : isWithin 5 2 ≡ false
 unfolding every member isWithin
 within-by-the-lowest-alone = refl
+
+pub half-is-a-majority : isMajority 1 2 ≡ false
+unfolding count member
+half-is-a-majority = refl
 
 pub majority-wants-everybody : isMajority 3 3 ≡ true
 unfolding count member

@@ -8,14 +8,22 @@ use Rattle.clock.specs.Times.{sameTime}
 use Rattle.log.specs.Entries.{sameEntry, entryAt, equalAt}
 use Rattle.cluster.specs.Servers.{freshServer, startedOf}
 use Rattle.steps.specs.declared.Answer.the-variants.{Reached, Refused}
-use Rattle.steps.specs.declared.Refusal.the-variants.{OutOfRange, WrongRole}
+use Rattle.steps.specs.declared.Refusal.the-variants.{OutOfRange, WrongRole, NoSuchEntry}
 use Rattle.counts.specs.Advances.{backs, passes, highestPassing, advancesOf}
 use Rattle.counts.specs.Acknowledged.{holders, isAcknowledged, hasEntry, acknowledgedOf}
 use Rattle.apart.proofs.Things.{x, y, z, holder, leader, two, F2}
 
+pub counts-members-of-other-terms : backs (holder 1 (x ∷ [])) 1 (holder 2 (x ∷ [])) ≡ false
+unfolding backs
+counts-members-of-other-terms = refl
+
 pub backs-by-terms-alone : backs (holder 1 (x ∷ [])) 1 (holder 1 []) ≡ false
 unfolding equalAt backs
 backs-by-terms-alone = refl
+
+pub counts-entries-of-older-terms : highestPassing (two (holder 2 (x ∷ [])) (holder 2 (x ∷ []))) (holder 2 (x ∷ [])) ≡ 0
+unfolding highest entryAt passes highestPassing
+counts-entries-of-older-terms = refl
 
 pub advances-one-further : advancesOf (two (leader (x ∷ z ∷ [])) (holder 1 (x ∷ z ∷ []))) 0 .answer ≡ Reached 2
 unfolding count highest sameTime sameEntry entryAt equalAt backs passes highestPassing
@@ -48,6 +56,10 @@ has-entry-of-any-term = refl
 pub has-entry-past-the-length : hasEntry freshServer 1 0 ≡ false
 unfolding hasEntry
 has-entry-past-the-length = refl
+
+pub not-yet-before-no-such-entry : acknowledgedOf F2 0 1 1 1 .answer ≡ Refused NoSuchEntry
+unfolding eachFrom startedOf hasEntry
+not-yet-before-no-such-entry = refl
 
 pub acknowledged-10-at-33 : acknowledgedOf F2 0 0 33 1 .answer ≡ Refused OutOfRange
 acknowledged-10-at-33 = refl

@@ -7,7 +7,11 @@ use Rattle.base.specs.Numbers.{every}
 use Rattle.hex.specs.Digits.{digitOf, charOf, byteOf}
 use Rattle.hex.specs.Lines.{allHex, bytesOf, hexOf, over}
 
--- the characters 0, 1, 2 and g are 48, 49, 50 and 103
+-- the characters 0, 1, 2, A and g are 48, 49, 50, 65 and 103
+
+pub upper-case-is-taken : digitOf 65 ≡ 16
+unfolding digitOf
+upper-case-is-taken = refl
 
 pub digit-takes-a-colon : digitOf 58 ≡ 16
 unfolding digitOf
@@ -20,6 +24,10 @@ char-in-upper-case = refl
 pub char-of-the-high-digit : charOf 26 ≡ 97
 unfolding charOf
 char-of-the-high-digit = refl
+
+pub low-digit-first : byteOf 49 48 ≡ 16
+unfolding digitOf byteOf
+low-digit-first = refl
 
 pub byte-drops-the-high-digit : byteOf 49 48 ≡ 16
 unfolding digitOf byteOf

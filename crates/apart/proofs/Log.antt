@@ -11,13 +11,17 @@ use Rattle.log.specs.declared.Log.{Log}
 use Rattle.log.specs.Entries.{zeroEntry, sameEntry, entryAt, lastTerm, appliedTime, equalAt, commonBeginning, isBeginning, latestValue}
 use Rattle.log.specs.Logs.{emptyLog, live, lengthOf, appended, joined}
 use Rattle.log.specs.Order.{entryOk, follows, placeOk, inOrder, restZero, logOk}
-use Rattle.apart.proofs.Things.{at, entry, x, y, z, log}
+use Rattle.apart.proofs.Things.{at, entry, x, y, z, u, log}
 
 pub zero-entry-of-value-1 : zeroEntry .value ≡ 0
 zero-entry-of-value-1 = refl
 
 pub empty-log-of-length-1 : emptyLog .len ≡ 0
 empty-log-of-length-1 = refl
+
+pub compares-only-terms : sameEntry x y ≡ false
+unfolding sameEntry
+compares-only-terms = refl
 
 pub same-leaves-out-the-time : sameEntry x (entry 1 5 41 (at 1 1)) ≡ false
 unfolding sameTime sameEntry
@@ -37,7 +41,7 @@ pub entry-past-the-length : entryAt (live (record { entries = x ∷ replicate 31
 unfolding entryAt
 entry-past-the-length = refl
 
-pub last-term-of-another-slot : lastTerm (live (log (x ∷ entry 2 5 42 (at 2 0) ∷ []))) ≡ 2
+pub last-term-of-another-slot : lastTerm (live (log (x ∷ u ∷ []))) ≡ 2
 unfolding entryAt
 last-term-of-another-slot = refl
 
@@ -99,6 +103,10 @@ pub entry-ok-above-the-term : entryOk 1 (entry 2 5 1 (at 1 0)) ≡ false
 unfolding entryOk
 entry-ok-above-the-term = refl
 
+pub times-may-repeat : placeOk 1 1 x (entry 1 5 42 (at 1 0)) ≡ false
+unfolding isBefore entryOk follows placeOk
+times-may-repeat = refl
+
 pub in-order-over-all-slots : inOrder 0 (live emptyLog) ≡ true
 unfolding every inOrder
 in-order-over-all-slots = refl
@@ -110,6 +118,10 @@ in-order-by-the-first-alone = refl
 -- the empty log with value 1 in slot 32
 abbrev dirty : Log
 dirty = record { entries = replicate 31 zeroEntry ++ (entry 0 0 1 (at 0 0) ∷ []); len = 0 }
+
+pub uses-a-slot-past-the-length : restZero (record { entries = x ∷ replicate 31 zeroEntry; len = 0 }) 0 ≡ false
+unfolding every sameTime sameEntry restZero
+uses-a-slot-past-the-length = refl
 
 pub rest-by-terms-alone : restZero dirty 0 ≡ false
 unfolding every sameTime sameEntry restZero

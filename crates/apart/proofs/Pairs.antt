@@ -4,21 +4,29 @@ use mathlib.Core.Bool.{true, false}
 use mathlib.Core.List.{[], _∷_}
 use Prim.Native.Nat.{max}
 use Rattle.clock.specs.Times.{zeroTime, isBefore, sameTime, laterOf}
-use Rattle.log.specs.Entries.{sameEntry, entryAt, equalAt}
+use Rattle.log.specs.Entries.{sameEntry, entryAt, equalAt, commonBeginning}
 use Rattle.log.specs.Logs.{emptyLog}
 use Rattle.cluster.specs.Servers.{freshServer}
-use Rattle.steps.specs.declared.Answer.the-variants.{Refused}
-use Rattle.steps.specs.declared.Refusal.the-variants.{ConditionUnmet}
+use Rattle.steps.specs.declared.Answer.the-variants.{Reached, Refused}
+use Rattle.steps.specs.declared.Refusal.the-variants.{ConditionUnmet, BelowCommitPoint}
 use Rattle.pairs.specs.Hears.{takesCommit, staysPrimary, heardOf, hearsOf}
 use Rattle.pairs.specs.Pulls.{mayJoin, tookOf, pullsOf}
-use Rattle.apart.proofs.Things.{at, x, y, z, w, log, server, holder, leader, timed}
+use Rattle.pairs.specs.RollsBack.{rollsBackOf}
+use Rattle.apart.proofs.Things.{at, x, y, z, w, u, log, server, holder, leader, covering, timed}
 
 pub greater-takes-the-first-or-adds : max 1 2 ≡ 2
 greater-takes-the-first-or-adds = refl
 
+pub hears-any-commit-point : takesCommit (holder 1 []) (covering (x ∷ [])) ≡ false
+unfolding equalAt takesCommit
+hears-any-commit-point = refl
+
 pub takes-a-lower-commit-point : takesCommit (server 1 false 2 1 zeroTime (x ∷ z ∷ [])) (server 1 false 1 1 zeroTime (x ∷ z ∷ [])) ≡ false
 unfolding takesCommit
 takes-a-lower-commit-point = refl
+
+pub hears-and-stays-primary : staysPrimary (leader []) (holder 2 []) ≡ false
+hears-and-stays-primary = refl
 
 pub stays-makes-a-secondary-primary : staysPrimary freshServer freshServer ≡ false
 stays-makes-a-secondary-primary = refl
@@ -30,6 +38,10 @@ hears-takes-the-log = refl
 pub hears-lowers-the-time : hearsOf (timed (at 2 0)) (timed (at 1 0)) .server .time ≡ at 2 0
 unfolding isBefore laterOf heardOf
 hears-lowers-the-time = refl
+
+pub pulls-the-lesser-commit-point : tookOf freshServer (covering (x ∷ [])) (log (x ∷ [])) .commit ≡ 1
+unfolding tookOf
+pulls-the-lesser-commit-point = refl
 
 pub took-takes-the-role : tookOf freshServer (leader []) emptyLog .primary ≡ false
 unfolding tookOf
@@ -48,3 +60,11 @@ pulls-gives-b = refl
 
 pub pulls-from-no-longer-a-log : pullsOf (holder 1 (x ∷ [])) (holder 1 (x ∷ [])) .answer ≡ Refused ConditionUnmet
 pulls-from-no-longer-a-log = refl
+
+pub rolls-back-below-the-commit-point : rollsBackOf (covering (x ∷ [])) (holder 2 (u ∷ [])) .answer ≡ Refused BelowCommitPoint
+unfolding sameEntry entryAt commonBeginning
+rolls-back-below-the-commit-point = refl
+
+pub rolls-back-by-server-terms : rollsBackOf (holder 2 (x ∷ [])) (holder 2 (u ∷ [])) .answer ≡ Reached 1
+unfolding sameEntry entryAt commonBeginning
+rolls-back-by-server-terms = refl

@@ -1,30 +1,42 @@
 -- What the definitions of reading a text give where a wrong program differs. Assumes nothing.
 use mathlib.Core.Path.{_≡_, refl}
 use mathlib.Core.Bool.{Bool, true, false}
-use mathlib.Core.List.{List}
+use mathlib.Core.List.{List, [], _∷_}
 use Prim.Native.Nat.{ℕ}
 use lib.ListN.{replicate}
-use Rattle.cluster.specs.Servers.{zeroCluster}
-use Rattle.cluster.specs.WellFormed.{wellFormed}
+use Rattle.base.specs.Numbers.{every, count}
+use Rattle.base.specs.Lists.{eachFrom}
+use Rattle.clock.specs.Times.{isBefore, sameTime, laterOf}
+use Rattle.log.specs.Entries.{sameEntry, entryAt}
+use Rattle.log.specs.Order.{inOrder, restZero, logOk}
+use Rattle.cluster.specs.Servers.{freshServer, zeroCluster, serverAt}
+use Rattle.cluster.specs.WellFormed.{numbersOk, countedOk, zeroOk, serverOk, wellFormed}
 use Rattle.steps.specs.declared.Answer.the-variants.{Refused}
 use Rattle.steps.specs.declared.Refusal.the-variants.{NotAFrame, IllFormed}
-use Rattle.steps.specs.declared.Step.the-variants.{Start, ClocksAgree}
-use Rattle.rules.specs.Rules.{stepOf}
+use Rattle.steps.specs.declared.Step.the-variants.{Start, Hears, ClocksAgree}
+use Rattle.pairs.specs.Hears.{heardOf}
+use Rattle.rules.specs.Rules.{rowOf, coreOf, stepOf}
+use Rattle.hex.specs.Digits.{digitOf, charOf, byteOf}
+use Rattle.hex.specs.Lines.{allHex}
 use Rattle.frames.specs.declared.ReadStep.the-variants as R
-use Rattle.words.specs.Words.{framed}
-use Rattle.frames.specs.Layout.{bytesOfFrame}
-use Rattle.frames.specs.Steps.{writeStep, readStep}
+use Rattle.words.specs.Words.{highOf, lowOf, wordOf, framed}
+use Rattle.frames.specs.Layout.{bytesOfFrame, frameOf}
+use Rattle.frames.specs.Kinds.{stepOfFrame, isClean}
+use Rattle.frames.specs.Steps.{writeStep, stepIn, readStep}
 use Rattle.replay.specs.declared.Reader.{Reader}
 use Rattle.replay.specs.declared.Plan.the-variants.{Refuse, Record}
-use Rattle.replay.specs.Texts.{respond}
-use Rattle.replay.specs.Pieces.{freshReader, begun, lineHeld, pushOf, isEmpty, finishOf}
+use Rattle.replay.specs.Texts.{lines, respond, answerTo, lineOf}
+use Rattle.replay.specs.Pieces.{freshReader, begun, lineHeld, pushOf, after, said, fedOf, isEmpty, finishOf}
 use Rattle.replay.specs.Plans.{placeOf, planOf}
-use Rattle.apart.proofs.Things.{F2}
+use Rattle.apart.proofs.Things.{holder, two, F2}
 
 -- the characters 0 and 1 are 48 and 49
 
 abbrev reader : List ℕ → ℕ → Bool → Reader
 reader held fill over = record { held = held; fill = fill; over = over }
+
+pub empty-line-is-skipped : lines (10 ∷ []) ≡ [] ∷ []
+empty-line-is-skipped = refl
 
 pub begins-with-the-zero-record : begun F2 .cluster ≡ F2
 begins-with-the-zero-record = refl
@@ -51,6 +63,17 @@ plan-gives-2-before-1 = refl
 pub plan-lets-a-start-look : planOf 0 false (R.Step (Start 2)) ≡ Record (Start 2)
 unfolding placeOf planOf
 plan-lets-a-start-look = refl
+
+-- server 0 hears from server 1, of term 1, at the line feed
+pub the-wrong-server-is-replaced :
+    serverAt (fedOf (record { cluster = two freshServer (holder 1 []); reader = reader (writeStep (Hears 0 1)) 26 false }) (10 ∷ []) 19 .session .cluster) 0 .term
+    ≡ 1
+unfolding every count eachFrom isBefore sameTime laterOf sameEntry entryAt inOrder restZero logOk numbersOk countedOk zeroOk serverOk wellFormed digitOf charOf byteOf allHex highOf lowOf wordOf framed bytesOfFrame frameOf stepOfFrame isClean stepIn heardOf rowOf coreOf stepOf respond answerTo lineOf lineHeld after said fedOf
+the-wrong-server-is-replaced = refl
+
+pub rest-without-line-feed-is-dropped : isEmpty (pushOf freshReader 48) ≡ false
+unfolding pushOf
+rest-without-line-feed-is-dropped = refl
 
 pub empty-by-the-fill-alone : isEmpty (reader (replicate 26 0) 0 true) ≡ false
 empty-by-the-fill-alone = refl

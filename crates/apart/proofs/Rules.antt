@@ -4,18 +4,20 @@ use mathlib.Core.Bool.{true, false}
 use mathlib.Core.List.{[], _∷_}
 use Rattle.base.specs.Numbers.{every, count, highest}
 use Rattle.base.specs.Lists.{eachFrom}
-use Rattle.clock.specs.Times.{isBefore}
+use Rattle.clock.specs.Times.{isBefore, laterOf}
 use Rattle.log.specs.Entries.{entryAt, latestValue}
 use Rattle.cluster.specs.declared.Server.{Server}
-use Rattle.cluster.specs.Servers.{zeroCluster, startedOf, serverAt}
+use Rattle.cluster.specs.Servers.{freshServer, zeroCluster, startedOf, serverAt}
 use Rattle.cluster.specs.Sets.{member, isWithin}
+use Rattle.cluster.specs.WellFormed.{wellFormed}
 use Rattle.steps.specs.declared.Answer.the-variants as A
-use Rattle.steps.specs.declared.Refusal.the-variants.{OutOfRange}
-use Rattle.steps.specs.declared.Step.the-variants.{Start, Elect, StepDown, WallClock, Restarts, LocalRead, ClocksAgree}
+use Rattle.steps.specs.declared.Refusal.the-variants.{IllFormed, OutOfRange}
+use Rattle.steps.specs.declared.Step.the-variants.{Start, Elect, StepDown, Hears, WallClock, Restarts, LocalRead, ClocksAgree}
+use Rattle.pairs.specs.Hears.{heardOf}
 use Rattle.wholes.specs.Elects.{notBehind, mayVote, allMayVote}
-use Rattle.rules.specs.Rules.{rowOf, coreOf, isStart}
-use Rattle.rules.specs.One.{untouchedOf, oneOf, singleOf}
-use Rattle.apart.proofs.Things.{at, x, holder, leader, F2}
+use Rattle.rules.specs.Rules.{rowOf, coreOf, isStart, stepOf}
+use Rattle.rules.specs.One.{untouchedOf, oneOf, singleOf, pairOf}
+use Rattle.apart.proofs.Things.{at, x, holder, leader, two, F2}
 
 pub untouched-makes-it-secondary : untouchedOf (leader []) .server .primary ≡ true
 untouched-makes-it-secondary = refl
@@ -39,6 +41,14 @@ pub single-puts-back-at-0 : serverAt (singleOf F2 1 (WallClock 1) .cluster) 0 .w
 unfolding eachFrom startedOf oneOf singleOf
 single-puts-back-at-0 = refl
 
+pub a-pulls-from-itself : pairOf F2 0 0 (Hears 0 0) .answer ≡ A.Refused OutOfRange
+unfolding pairOf
+a-pulls-from-itself = refl
+
+pub record-untouched : serverAt (pairOf (two freshServer (holder 1 [])) 0 1 (Hears 0 1) .cluster) 0 .term ≡ 1
+unfolding heardOf oneOf pairOf
+record-untouched = refl
+
 pub core-looks-at-the-record : coreOf zeroCluster ClocksAgree .answer ≡ A.Done
 unfolding rowOf coreOf
 core-looks-at-the-record = refl
@@ -52,3 +62,7 @@ is-start-never = refl
 
 pub is-start-always : isStart ClocksAgree ≡ false
 is-start-always = refl
+
+pub ill-formed-records-pass : stepOf zeroCluster ClocksAgree .answer ≡ A.Refused IllFormed
+unfolding wellFormed stepOf
+ill-formed-records-pass = refl

@@ -32,6 +32,9 @@ z = entry 1 5 42 (at 2 0)
 abbrev pub w : Entry
 w = entry 1 6 7 (at 3 0)
 
+abbrev pub u : Entry
+u = entry 2 5 42 (at 2 0)
+
 -- the log of these entries
 abbrev pub log : List Entry → Log
 log es = record { entries = es ++ replicate (logLimit - length es) zeroEntry; len = length es }
@@ -48,6 +51,10 @@ holder term es = server term false 0 1 zeroTime es
 -- a fresh server but for being a primary of term 1 with this log
 abbrev pub leader : List Entry → Server
 leader es = server 1 true 0 1 zeroTime es
+
+-- a secondary of term 1 with this log, whose commit point covers the first entry
+abbrev pub covering : List Entry → Server
+covering es = server 1 false 1 1 zeroTime es
 
 -- a fresh server but for its wall clock
 abbrev pub clocked : ℕ → Server

@@ -10,15 +10,22 @@ use Rattle.cluster.specs.declared.Cluster.{Cluster}
 use Rattle.cluster.specs.Servers.{freshServer, startedOf, freshCluster, serverAt, withServer, votedOf, clockedOf}
 use Rattle.cluster.specs.Sets.{member, isWithin}
 use Rattle.steps.specs.declared.Answer.the-variants.{Done, Refused}
-use Rattle.steps.specs.declared.Refusal.the-variants.{ConditionUnmet}
+use Rattle.steps.specs.declared.Refusal.the-variants.{OutOfRange, ConditionUnmet}
 use Rattle.wholes.specs.Starts.{startsOf}
 use Rattle.wholes.specs.ClocksAgree.{greatestClock, agreesOf}
 use Rattle.wholes.specs.Elects.{notBehind, mayVote, voteOk, allMayVote, electsOf}
-use Rattle.apart.proofs.Things.{x, holder, clocked, two, F2}
+use Rattle.apart.proofs.Things.{x, z, u, holder, clocked, two, F2}
+
+pub starts-one-server : startsOf F2 1 .answer ≡ Refused OutOfRange
+starts-one-server = refl
 
 pub starts-keeps-old-logs : serverAt (startsOf (two (holder 1 (x ∷ [])) freshServer) 2 .cluster) 0 .log ≡ emptyLog
 unfolding eachFrom startedOf
 starts-keeps-old-logs = refl
+
+pub elects-by-lengths-only : notBehind (holder 2 (x ∷ z ∷ [])) (holder 2 (u ∷ [])) ≡ false
+unfolding entryAt notBehind
+elects-by-lengths-only = refl
 
 pub votes-by-terms-alone : mayVote (holder 1 []) (holder 1 (x ∷ [])) ≡ false
 unfolding entryAt notBehind mayVote
@@ -51,6 +58,10 @@ elects-into-own-terms = (refl, refl)
 pub elects-from-outside : electsOf (freshCluster 3) 0 6 .answer ≡ Refused ConditionUnmet
 unfolding every count member isWithin
 elects-from-outside = refl
+
+pub clocks-agree-on-the-least : greatestClock (two (clocked 5) (clocked 1)) ≡ 5
+unfolding greatest
+clocks-agree-on-the-least = refl
 
 pub greatest-of-all-seven : greatestClock (withServer F2 2 (clocked 9)) ≡ 1
 unfolding greatest eachFrom startedOf
