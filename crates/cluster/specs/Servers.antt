@@ -9,6 +9,8 @@ use Rattle.clock.specs.Times.{zeroTime}
 use Rattle.log.specs.Logs.{emptyLog}
 use Rattle.cluster.specs.declared.Server.{Server}
 use Rattle.cluster.specs.declared.Cluster.{Cluster}
+use Rattle.cluster.specs.declared.Change.{Change}
+use Rattle.cluster.specs.declared.Change.the-variants as C
 use Rattle.cluster.specs.Sets.{member}
 
 -- a cluster has 2 to 7 servers
@@ -66,3 +68,12 @@ clockedOf n w i s =
 
 abbrev pub clocksSet : Cluster → ℕ → Cluster
 clocksSet c w = record { count = c .count; servers = each (clockedOf (c .count) w) (c .servers) }
+
+-- what a start, an election and agreeing clocks make of server i, for the one loop behind them
+abbrev pub changedOf : Change → ℕ → Server → Server
+changedOf (C.Start n) = startedOf n
+changedOf (C.Elect a m t) = votedOf a m t
+changedOf (C.Clock n w) = clockedOf n w
+
+abbrev pub changedAll : Change → Cluster → Cluster
+changedAll k c = record { count = c .count; servers = each (changedOf k) (c .servers) }

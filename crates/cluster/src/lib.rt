@@ -1,7 +1,7 @@
 // Servers side by side in one record, by value: the fixed records, one server replaced, all servers changed, and which records are well formed.
 ghost use mathlib.Core.Path.{_≡_};
 ghost use Prim.Native.Nat.{min};
-ghost use Rattle.cluster.specs.Servers.{mostServers, zeroServer, freshServer, zeroCluster, startedOf, freshCluster, withServer, votedOf, electedAll, clockedOf, clocksSet};
+ghost use Rattle.cluster.specs.Servers.{mostServers, zeroServer, freshServer, zeroCluster, startedOf, freshCluster, withServer, votedOf, electedAll, clockedOf, clocksSet, changedOf, changedAll};
 ghost use Rattle.cluster.specs.WellFormed.{numbersOk, countedOk, zeroOk, serverOk, wellFormed};
 use clock::Time;
 use log::Log;
@@ -20,6 +20,13 @@ pub struct Server {
 pub struct Cluster {
     pub count: usize,
     pub servers: [Server; MOST_SERVERS],
+}
+
+// A change of all servers at once: a start of n, an election of a by a set into a term, the first count's wall clocks.
+enum Change {
+    Start(usize),
+    Elect(usize, u8, u16),
+    Clock(usize, u16),
 }
 
 pub const FEWEST_SERVERS: usize = 2;
@@ -86,22 +93,6 @@ pub fn started(s: Server, i: usize, n: usize) -> Server
     if i < n { FRESH_SERVER } else { s }
 }
 
-// The fresh cluster of n servers.
-pub fn fresh_cluster(n: usize) -> Cluster
-    ensures { λ r. ⌜ r ≡ freshCluster n ⌝ }
-{
-    let mut c = ZERO_CLUSTER;
-    c.count = n;
-    let mut i = 0;
-    while i < MOST_SERVERS {
-        let s = c.servers[i];
-        let t = started(s, i, n);
-        c.servers[i] = t;
-        i += 1;
-    }
-    c
-}
-
 // The record with server i replaced; past the servers nothing is.
 pub fn with_server(c: Cluster, i: usize, s: Server) -> Cluster
     ensures { λ r. ⌜ r ≡ withServer c i s ⌝ }
@@ -129,21 +120,6 @@ pub fn voted(s: Server, i: usize, a: usize, set: u8, term: u16) -> Server
     }
 }
 
-// The record after an election of a by the set into the term.
-pub fn elect_all(c: Cluster, a: usize, set: u8, term: u16) -> Cluster
-    ensures { λ r. ⌜ r ≡ electedAll c a set term ⌝ }
-{
-    let mut d = c;
-    let mut i = 0;
-    while i < MOST_SERVERS {
-        let s = d.servers[i];
-        let t = voted(s, i, a, set, term);
-        d.servers[i] = t;
-        i += 1;
-    }
-    d
-}
-
 // Server i with this wall clock, where it is one of the first count.
 pub fn clocked(s: Server, i: usize, count: usize, wall: u16) -> Server
     ensures { λ r. ⌜ r ≡ clockedOf count wall i s ⌝ }
@@ -155,20 +131,54 @@ pub fn clocked(s: Server, i: usize, count: usize, wall: u16) -> Server
     }
 }
 
-// The record with every counted server's wall clock set.
-pub fn set_clocks(c: Cluster, wall: u16) -> Cluster
-    ensures { λ r. ⌜ r ≡ clocksSet c wall ⌝ }
+// Server i after the change.
+fn change_one(s: Server, i: usize, change: Change) -> Server
+    ensures { λ r. ⌜ r ≡ changedOf change i s ⌝ }
+{
+    match change {
+        Change::Start(n) => started(s, i, n),
+        Change::Elect(a, set, term) => voted(s, i, a, set, term),
+        Change::Clock(count, wall) => clocked(s, i, count, wall),
+    }
+}
+
+// The record after the change, and the one loop that goes through all servers.
+fn change_all(c: Cluster, change: Change) -> Cluster
+    ensures { λ r. ⌜ r ≡ changedAll change c ⌝ }
 {
     let mut d = c;
-    let count = c.count;
     let mut i = 0;
     while i < MOST_SERVERS {
         let s = d.servers[i];
-        let t = clocked(s, i, count, wall);
+        let t = change_one(s, i, change);
         d.servers[i] = t;
         i += 1;
     }
     d
+}
+
+// The fresh cluster of n servers.
+pub fn fresh_cluster(n: usize) -> Cluster
+    ensures { λ r. ⌜ r ≡ freshCluster n ⌝ }
+{
+    let mut c = ZERO_CLUSTER;
+    c.count = n;
+    change_all(c, Change::Start(n))
+}
+
+// The record after an election of a by the set into the term.
+pub fn elect_all(c: Cluster, a: usize, set: u8, term: u16) -> Cluster
+    ensures { λ r. ⌜ r ≡ electedAll c a set term ⌝ }
+{
+    change_all(c, Change::Elect(a, set, term))
+}
+
+// The record with every counted server's wall clock set.
+pub fn set_clocks(c: Cluster, wall: u16) -> Cluster
+    ensures { λ r. ⌜ r ≡ clocksSet c wall ⌝ }
+{
+    let count = c.count;
+    change_all(c, Change::Clock(count, wall))
 }
 
 // Whether a counted server's commit point, wall clock and role are in range.

@@ -1,5 +1,5 @@
--- `cluster::elect_all` meets its contract. Assumes nothing.
-use Rattle.cluster.specs.Servers.{votedOf}
+-- `cluster::change_all` meets its contract. Assumes nothing.
+use Rattle.cluster.specs.Servers.{changedOf}
 use Rattle.base.proofs.Each.{partly, partly-none, partly-more, partly-all}
 use Rattle.base.proofs.Facts.{mapped-long}
 use native.Mathlib.Omega.{arith}
@@ -7,14 +7,14 @@ use lib.ListN.{length}
 use mathlib.Core.Path.{_≡_, _∙_, refl}
 use Prim.Native.Nat.{_≤_, _-_}
 use borrow.Author.Needs.{needs}
-use Rattle.cluster.proofs.elect_all.Statement.{statement}
-use Rattle.cluster.proofs.elect_all.Tie as tie
+use Rattle.cluster.proofs.change_all.Statement.{statement}
+use Rattle.cluster.proofs.change_all.Tie as tie
 
 abbrev Inv-loop : tie.InvT-loop
-Inv-loop a set term d₀ i₀ d i = (i ≤ 7) × (d .count ≡ d₀ .count) × (d .servers ≡ partly (votedOf a set term) 0 i (d₀ .servers))
+Inv-loop change d₀ i₀ d i = (i ≤ 7) × (d .count ≡ d₀ .count) × (d .servers ≡ partly (changedOf change) 0 i (d₀ .servers))
 
 abbrev μ-loop : tie.MeasureT-loop
-μ-loop a set term d₀ i₀ d i = 7 - i
+μ-loop change d₀ i₀ d i = 7 - i
 
 loop-holds : tie.Need-loop-holds Inv-loop μ-loop
 loop-holds c = (search needs, refl, partly-none _ _)
@@ -25,8 +25,8 @@ mul-s c = search needs
 element-copy-out-s : tie.Need-element-copy-out-s Inv-loop μ-loop
 element-copy-out-s c = search needs
 
-voted-requires : tie.Need-voted-requires Inv-loop μ-loop
-voted-requires c κs = search needs
+change-one-requires : tie.Need-change-one-requires Inv-loop μ-loop
+change-one-requires c κs = search needs
 
 mul-t : tie.Need-mul-t Inv-loop μ-loop
 mul-t c = search needs
@@ -44,7 +44,7 @@ loop-again : tie.Need-loop-again Inv-loop μ-loop
 loop-again c =
     let b = c .before .before .before in
     let h : length (b .before .args .c .servers) ≡ 7 = search (needs, mapped-long) in
-    (search needs, b .loop .inv .1, rw (c .voted .ensures, b .loop .inv .2) (partly-more _ _ _ _ (omega arith)))
+    (search needs, b .loop .inv .1, rw (c .change-one .ensures, b .loop .inv .2) (partly-more _ _ _ _ (omega arith)))
 
 returns : tie.Need-returns Inv-loop μ-loop
 returns c =
@@ -52,8 +52,8 @@ returns c =
     let e = c .before .loop .inv .2 ∙ partly-all _ 0 _ _ (omega arith) in
     λ i. record { count = c .before .loop .inv .1 i; servers = e i }
 
-pub elect-all-spec : {M : Type 1} → statement M
-elect-all-spec =
+pub change-all-spec : {M : Type 1} → statement M
+change-all-spec =
     tie.close
     (tie.spec
     Inv-loop
@@ -61,7 +61,7 @@ elect-all-spec =
     loop-holds
     mul-s
     element-copy-out-s
-    voted-requires
+    change-one-requires
     mul-t
     element-set-from-t
     add-i
