@@ -51,7 +51,10 @@ pub const ZERO_SERVER: Server = Server {
 };
 
 pub const FRESH_SERVER: Server = Server {
-    head: Head { wall: 1, ..ZERO_HEAD },
+    head: Head {
+        wall: 1,
+        ..ZERO_HEAD
+    },
     ..ZERO_SERVER
 };
 
@@ -203,7 +206,11 @@ pub fn numbers_ok(s: Server) -> bool
     if s.head.wall < 1 {
         return false;
     }
-    if s.head.primary { 1 <= s.head.term } else { true }
+    if s.head.primary {
+        1 <= s.head.term
+    } else {
+        true
+    }
 }
 
 // Whether a counted server may stand in a well-formed record.
