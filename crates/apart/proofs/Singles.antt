@@ -16,10 +16,10 @@ use Rattle.apart.proofs.Things.{at, timed}
 pub secondary-steps-down : stepsDownOf freshServer .answer ≡ Refused WrongRole
 secondary-steps-down = refl
 
-pub wall-clock-adds-2 : wallClockOf freshServer .server .wall ≡ 2
+pub wall-clock-adds-2 : wallClockOf freshServer .server .head .wall ≡ 2
 wall-clock-adds-2 = refl
 
-pub restarts-keeps-the-time : restartsOf (timed (at 5 3)) .server .time ≡ at 0 0
+pub restarts-keeps-the-time : restartsOf (timed (at 5 3)) .server .head .time ≡ at 0 0
 unfolding entryAt
 restarts-keeps-the-time = refl
 
@@ -27,7 +27,7 @@ pub written-stamps-the-old-time : entryAt (live (writtenOf (timed (at 1 0)) 5 41
 unfolding entryAt appended wroteOf
 written-stamps-the-old-time = refl
 
-pub written-leaves-the-time : writtenOf (timed (at 1 0)) 5 41 (at 2 0) .server .time ≡ at 2 0
+pub written-leaves-the-time : writtenOf (timed (at 1 0)) 5 41 (at 2 0) .server .head .time ≡ at 2 0
 unfolding wroteOf
 written-leaves-the-time = refl
 

@@ -8,6 +8,7 @@ use log::Log;
 
 pub mod sets;
 
+// What a server keeps beside its log, apart from it so that a kind that touches no log is told of heads alone.
 pub struct Head {
     pub term: u16,
     pub primary: bool,
@@ -16,6 +17,7 @@ pub struct Head {
     pub time: Time,
 }
 
+// What comes later stands beside the two: a step names what it changes, `Server { head: h, ..s }`.
 pub struct Server {
     pub head: Head,
     pub log: Log,
