@@ -14,7 +14,7 @@ use Rattle.cluster.specs.Sets.{member, membersOf, isWithin, isMajority}
 use Rattle.cluster.specs.WellFormed.{numbersOk, countedOk, zeroOk, serverOk, wellFormed}
 use Rattle.apart.proofs.Things.{at, x, server, holder, leader, covering, clocked, timed, two, F2}
 
-pub fresh-server-with-wall-clock-0 : freshServer .wall ≡ 1
+pub fresh-server-with-wall-clock-0 : freshServer .head .wall ≡ 1
 fresh-server-with-wall-clock-0 = refl
 
 pub zero-record-of-count-2 : zeroCluster .count ≡ 0
@@ -48,31 +48,31 @@ with-server-replaces-0 = refl
 pub with-server-raises-the-count : withServer F2 2 freshServer .count ≡ 2
 with-server-raises-the-count = refl
 
-pub lower-voters-are-primary : votedOf 1 3 1 0 freshServer .primary ≡ false
+pub lower-voters-are-primary : votedOf 1 3 1 0 freshServer .head .primary ≡ false
 unfolding member votedOf
 lower-voters-are-primary = refl
 
-pub voted-gives-everybody-the-term : votedOf 0 1 1 1 freshServer .term ≡ 0
+pub voted-gives-everybody-the-term : votedOf 0 1 1 1 freshServer .head .term ≡ 0
 unfolding member votedOf
 voted-gives-everybody-the-term = refl
 
-pub elect-changes-a-alone : serverAt (electedAll F2 0 3 1) 1 .term ≡ 1
+pub elect-changes-a-alone : serverAt (electedAll F2 0 3 1) 1 .head .term ≡ 1
 unfolding eachFrom startedOf member votedOf
 elect-changes-a-alone = refl
 
-pub elect-takes-commit-points : serverAt (electedAll (two (server 0 false 1 1 zeroTime []) freshServer) 0 1 2) 0 .commit ≡ 1
+pub elect-takes-commit-points : serverAt (electedAll (two (server 0 false 1 1 zeroTime []) freshServer) 0 1 2) 0 .head .commit ≡ 1
 unfolding eachFrom member votedOf
 elect-takes-commit-points = refl
 
-pub clocked-keeps-a-later-clock : clockedOf 2 3 0 (clocked 5) .wall ≡ 3
+pub clocked-keeps-a-later-clock : clockedOf 2 3 0 (clocked 5) .head .wall ≡ 3
 unfolding clockedOf
 clocked-keeps-a-later-clock = refl
 
-pub clocks-sets-0-alone : serverAt (clocksSet F2 5) 1 .wall ≡ 5
+pub clocks-sets-0-alone : serverAt (clocksSet F2 5) 1 .head .wall ≡ 5
 unfolding eachFrom startedOf clockedOf
 clocks-sets-0-alone = refl
 
-pub clocks-sets-all-seven : serverAt (clocksSet F2 5) 2 .wall ≡ 0
+pub clocks-sets-all-seven : serverAt (clocksSet F2 5) 2 .head .wall ≡ 0
 unfolding eachFrom startedOf clockedOf
 clocks-sets-all-seven = refl
 

@@ -35,15 +35,15 @@ pub hears-takes-the-log : hearsOf freshServer (holder 0 (x ∷ [])) .server .log
 unfolding heardOf
 hears-takes-the-log = refl
 
-pub hears-lowers-the-time : hearsOf (timed (at 2 0)) (timed (at 1 0)) .server .time ≡ at 2 0
+pub hears-lowers-the-time : hearsOf (timed (at 2 0)) (timed (at 1 0)) .server .head .time ≡ at 2 0
 unfolding isBefore laterOf heardOf
 hears-lowers-the-time = refl
 
-pub pulls-the-lesser-commit-point : tookOf freshServer (covering (x ∷ [])) (log (x ∷ [])) .commit ≡ 1
+pub pulls-the-lesser-commit-point : tookOf freshServer (covering (x ∷ [])) (log (x ∷ [])) .head .commit ≡ 1
 unfolding tookOf
 pulls-the-lesser-commit-point = refl
 
-pub took-takes-the-role : tookOf freshServer (leader []) emptyLog .primary ≡ false
+pub took-takes-the-role : tookOf freshServer (leader []) emptyLog .head .primary ≡ false
 unfolding tookOf
 took-takes-the-role = refl
 

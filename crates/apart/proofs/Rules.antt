@@ -19,13 +19,13 @@ use Rattle.rules.specs.Rules.{rowOf, coreOf, isStart, stepOf}
 use Rattle.rules.specs.One.{untouchedOf, oneOf, singleOf, pairOf}
 use Rattle.apart.proofs.Things.{at, x, holder, leader, two, F2}
 
-pub untouched-makes-it-secondary : untouchedOf (leader []) .server .primary ≡ true
+pub untouched-makes-it-secondary : untouchedOf (leader []) .server .head .primary ≡ true
 untouched-makes-it-secondary = refl
 
 pub untouched-refuses : (s : Server) → untouchedOf s .answer ≡ A.Done
 untouched-refuses s = refl
 
-pub one-does-nothing : oneOf (leader []) (leader []) (StepDown 0) .server .primary ≡ false
+pub one-does-nothing : oneOf (leader []) (leader []) (StepDown 0) .server .head .primary ≡ false
 unfolding oneOf
 one-does-nothing = refl
 
@@ -37,7 +37,7 @@ pub single-of-any-number : singleOf F2 2 (Restarts 2) .answer ≡ A.Refused OutO
 unfolding singleOf
 single-of-any-number = refl
 
-pub single-puts-back-at-0 : serverAt (singleOf F2 1 (WallClock 1) .cluster) 0 .wall ≡ 1
+pub single-puts-back-at-0 : serverAt (singleOf F2 1 (WallClock 1) .cluster) 0 .head .wall ≡ 1
 unfolding eachFrom startedOf oneOf singleOf
 single-puts-back-at-0 = refl
 

@@ -18,7 +18,7 @@ use Rattle.singles.specs.LocalRead.{localReadOf}
 use Rattle.singles.specs.MajorityRead.{majorityReadOf}
 use Rattle.apart.proofs.Things.{at, x, z, holder, leader, covering, clocked, timed}
 
-pub steps-down-and-stays-primary : stepsDownOf (leader []) .server .primary ≡ false
+pub steps-down-and-stays-primary : stepsDownOf (leader []) .server .head .primary ≡ false
 steps-down-and-stays-primary = refl
 
 pub secondary-steps-down : stepsDownOf freshServer .answer ≡ Refused WrongRole
@@ -27,13 +27,13 @@ secondary-steps-down = refl
 pub wall-clock-passes-its-limit : wallClockOf (clocked 65535) .answer ≡ Refused AtLimit
 wall-clock-passes-its-limit = refl
 
-pub wall-clock-adds-2 : wallClockOf freshServer .server .wall ≡ 2
+pub wall-clock-adds-2 : wallClockOf freshServer .server .head .wall ≡ 2
 wall-clock-adds-2 = refl
 
-pub restarts-with-its-commit-point : restartsOf (covering (x ∷ [])) .server .commit ≡ 0
+pub restarts-with-its-commit-point : restartsOf (covering (x ∷ [])) .server .head .commit ≡ 0
 restarts-with-its-commit-point = refl
 
-pub restarts-keeps-the-time : restartsOf (timed (at 5 3)) .server .time ≡ at 0 0
+pub restarts-keeps-the-time : restartsOf (timed (at 5 3)) .server .head .time ≡ at 0 0
 unfolding entryAt
 restarts-keeps-the-time = refl
 
@@ -50,7 +50,7 @@ pub written-stamps-the-old-time : entryAt (live (writtenOf (timed (at 1 0)) 5 41
 unfolding entryAt appended wroteOf
 written-stamps-the-old-time = refl
 
-pub written-leaves-the-time : writtenOf (timed (at 1 0)) 5 41 (at 2 0) .server .time ≡ at 2 0
+pub written-leaves-the-time : writtenOf (timed (at 1 0)) 5 41 (at 2 0) .server .head .time ≡ at 2 0
 unfolding wroteOf
 written-leaves-the-time = refl
 

@@ -11,7 +11,7 @@ use Rattle.log.specs.Entries.{zeroEntry}
 use Rattle.log.specs.Logs.{logLimit}
 use Rattle.cluster.specs.declared.Server.{Server}
 use Rattle.cluster.specs.declared.Cluster.{Cluster}
-use Rattle.cluster.specs.Servers.{zeroServer, freshCluster}
+use Rattle.cluster.specs.Servers.{withHead, withLog, zeroServer, freshServer, freshCluster}
 
 abbrev pub at : ℕ → ℕ → Time
 at p l = record { p = p; l = l }
@@ -42,7 +42,7 @@ log es = record { entries = es ++ replicate (logLimit - length es) zeroEntry; le
 -- a fresh server but for its term, role, commit point, wall clock, cluster time and log
 abbrev pub server : ℕ → Bool → ℕ → ℕ → Time → List Entry → Server
 server term primary commit wall time es =
-    record { log = log es; term = term; primary = primary; commit = commit; wall = wall; time = time }
+    withLog (withHead freshServer (record { term = term; primary = primary; commit = commit; wall = wall; time = time })) (log es)
 
 -- a fresh server but for its term and log
 abbrev pub holder : ℕ → List Entry → Server

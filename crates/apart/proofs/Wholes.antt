@@ -51,7 +51,7 @@ votes-ask-past-the-count = refl
 abbrev elected : Cluster
 elected = electsOf (two (holder 2 []) freshServer) 0 3 .cluster
 
-pub elects-into-own-terms : (serverAt elected 0 .term ≡ 3) × (serverAt elected 1 .term ≡ 3)
+pub elects-into-own-terms : (serverAt elected 0 .head .term ≡ 3) × (serverAt elected 1 .head .term ≡ 3)
 unfolding every count eachFrom entryAt member isWithin votedOf notBehind mayVote allMayVote
 elects-into-own-terms = (refl, refl)
 
@@ -67,7 +67,7 @@ pub greatest-of-all-seven : greatestClock (withServer F2 2 (clocked 9)) ≡ 1
 unfolding greatest eachFrom startedOf
 greatest-of-all-seven = refl
 
-pub agree-sets-0-alone : serverAt (agreesOf (two (clocked 5) (clocked 1)) .cluster) 1 .wall ≡ 5
+pub agree-sets-0-alone : serverAt (agreesOf (two (clocked 5) (clocked 1)) .cluster) 1 .head .wall ≡ 5
 unfolding greatest eachFrom clockedOf
 agree-sets-0-alone = refl
 

@@ -1,4 +1,4 @@
--- One server replaced and the others unchanged; all servers changed at once. Assumes nothing.
+-- One server replaced and the others unchanged; all servers changed at once; a server with another head or log fits. Assumes nothing.
 use mathlib.Core.Path.{_≡_}
 use mathlib.Core.Logic.{_≢_}
 use Prim.Native.Nat.{ℕ, _<_}
@@ -6,9 +6,13 @@ use lib.ListN.{length}
 use lib.Seq.{getD-set-same, getD-set-other}
 use Rattle.base.proofs.Each.{each-at}
 use Rattle.base.specs.Lists.{each}
+use Rattle.log.specs.declared.Log.{Log}
+use Rattle.log.specs.Ranges.{FitsLog}
+use Rattle.cluster.specs.declared.Head.{Head}
 use Rattle.cluster.specs.declared.Server.{Server}
 use Rattle.cluster.specs.declared.Cluster.{Cluster}
-use Rattle.cluster.specs.Servers.{pastServer, serverAt, withServer}
+use Rattle.cluster.specs.Ranges.{FitsHead, FitsServer}
+use Rattle.cluster.specs.Servers.{withHead, withLog, pastServer, serverAt, withServer}
 
 module _ (c : Cluster) (a : ℕ) (s : Server) where
   pub replaced-here : a < length (c .servers) → serverAt (withServer c a s) a ≡ s
@@ -21,3 +25,10 @@ module _ (c : Cluster) (a : ℕ) (s : Server) where
 pub changed-at : (f : ℕ → Server → Server) (c : Cluster) (i : ℕ) → i < length (c .servers)
     → serverAt (record { count = c .count; servers = each f (c .servers) }) i ≡ f i (serverAt c i)
 changed-at f c i h = each-at f (c .servers) i pastServer h
+
+module _ {s : Server} (f : FitsServer s) where
+  pub fits-head : {h : Head} → FitsHead h → FitsServer (withHead s h)
+  fits-head k = record { head = k; log = f .log }
+
+  pub fits-log : {g : Log} → FitsLog g → FitsServer (withLog s g)
+  fits-log k = record { head = f .head; log = k }

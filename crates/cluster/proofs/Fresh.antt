@@ -18,7 +18,7 @@ use Rattle.log.specs.Logs.{logLimit, emptyLog}
 use Rattle.log.specs.Ranges.{FitsLog}
 use Rattle.log.proofs.Tidy.{tidy-empty}
 use Rattle.log.proofs.Orderly.{Orderly}
-use Rattle.cluster.specs.Servers.{mostServers, fewestServers, zeroServer, freshServer, pastServer, serverAt, startedOf, freshCluster, zeroCluster}
+use Rattle.cluster.specs.Servers.{mostServers, fewestServers, withWall, withHead, zeroHead, zeroServer, freshServer, pastServer, serverAt, startedOf, freshCluster, zeroCluster}
 use Rattle.cluster.specs.Ranges.{FitsServer, Fits}
 use Rattle.cluster.specs.WellFormed.{wellFormed}
 use Rattle.cluster.proofs.Changed.{changed-at}
@@ -82,8 +82,8 @@ fits-started : (n i : ℕ) → FitsServer (startedOf n i zeroServer)
 unfolding startedOf
 fits-started n i = ⊎-elim (λ l. rw (lt-ltb i n l) (plain 1 (omega arith))) (λ l. rw (le-ltb i n l) (plain 0 (omega arith))) (lt-or-le i n)
   where
-    plain : (w : ℕ) → w ≤ 1 → FitsServer (record { log = emptyLog; term = 0; primary = zeroServer .primary; commit = 0; wall = w; time = zeroTime })
-    plain w h = record { log = fits-empty; term = omega arith; commit = omega arith; wall = omega arith; time = fits-zero-time }
+    plain : (w : ℕ) → w ≤ 1 → FitsServer (withHead zeroServer (withWall zeroHead w))
+    plain w h = record { head = record { term = omega arith; commit = omega arith; wall = omega arith; time = fits-zero-time }; log = fits-empty }
 
 pub fits-fresh : (n : ℕ) → n ≤ mostServers → Fits (freshCluster n)
 fits-fresh n h =

@@ -30,11 +30,11 @@ use Rattle.cluster.specs.Ranges.{Fits}
 
 pub record ServerGood (s : Server) : Type 0 where
   -- its length is at most 32, slots past it are zero, its entries' terms, keys, values and times are in order and range
-  pub log : LogGood (s .term) (s .log)
-  pub last-time : isBefore (s .time) (appliedTime (live (s .log))) ≡ false
-  pub commit-point : s .commit ≤ s .log .len
-  pub wall-clock : 1 ≤ s .wall
-  pub primary-term : s .primary ≡ true → 1 ≤ s .term
+  pub log : LogGood (s .head .term) (s .log)
+  pub last-time : isBefore (s .head .time) (appliedTime (live (s .log))) ≡ false
+  pub commit-point : s .head .commit ≤ s .log .len
+  pub wall-clock : 1 ≤ s .head .wall
+  pub primary-term : s .head .primary ≡ true → 1 ≤ s .head .term
 
 not-is-true : (b : Bool) → b ≡ false → not b ≡ true
 not-is-true b e = rw e
@@ -42,15 +42,15 @@ not-is-true b e = rw e
 pub server-good : (s : Server) → length (s .log .entries) ≡ logLimit → countedOk s ≡ true → ServerGood s
 unfolding countedOk numbersOk
 server-good s slots h =
-    let h2 = and-right (logOk (s .term) (s .log)) _ h in
-    let n = and-right (not (isBefore (s .time) (appliedTime (live (s .log))))) _ h2 in
-    let n2 = and-right (leb (s .commit) (s .log .len)) _ n in
+    let h2 = and-right (logOk (s .head .term) (s .log)) _ h in
+    let n = and-right (not (isBefore (s .head .time) (appliedTime (live (s .log))))) _ h2 in
+    let n2 = and-right (leb (s .head .commit) (s .log .len)) _ n in
     record {
       log = log-good slots (and-left _ _ h);
       last-time = not-true _ (and-left _ _ h2);
-      commit-point = leb-true (s .commit) (s .log .len) (and-left _ _ n);
-      wall-clock = leb-true 1 (s .wall) (and-left _ _ n2);
-      primary-term = λ p. leb-true 1 (s .term) (rw p at (and-right (leb 1 (s .wall)) _ n2));
+      commit-point = leb-true (s .head .commit) (s .log .len) (and-left _ _ n);
+      wall-clock = leb-true 1 (s .head .wall) (and-left _ _ n2);
+      primary-term = λ p. leb-true 1 (s .head .term) (rw p at (and-right (leb 1 (s .head .wall)) _ n2));
     }
 
 pub good-server : (s : Server) → ServerGood s → countedOk s ≡ true
@@ -58,11 +58,11 @@ unfolding countedOk numbersOk
 good-server s g =
     and-both _ _ (good-log (g .log))
     (and-both _ _ (not-is-true _ (g .last-time))
-    (and-both _ _ (le-leb (s .commit) (s .log .len) (g .commit-point))
-    (and-both _ _ (le-leb 1 (s .wall) (g .wall-clock)) (role (s .primary) refl))))
+    (and-both _ _ (le-leb (s .head .commit) (s .log .len) (g .commit-point))
+    (and-both _ _ (le-leb 1 (s .head .wall) (g .wall-clock)) (role (s .head .primary) refl))))
   where
-    role : (b : Bool) → s .primary ≡ b → cond b (leb 1 (s .term)) true ≡ true
-    role true e = le-leb 1 (s .term) (g .primary-term e)
+    role : (b : Bool) → s .head .primary ≡ b → cond b (leb 1 (s .head .term)) true ≡ true
+    role true e = le-leb 1 (s .head .term) (g .primary-term e)
     role false e = refl
 
 -- ---- a server past the count
@@ -79,16 +79,16 @@ unfolding zeroOk
 zero-is s slots h =
     let h2 = and-right (eqb (s .log .len) 0) _ h in
     let h3 = and-right (restZero (s .log) 0) _ h2 in
-    let h4 = and-right (eqb (s .term) 0) _ h3 in
-    let h5 = and-right (not (s .primary)) _ h4 in
-    let h6 = and-right (eqb (s .commit) 0) _ h5 in
+    let h4 = and-right (eqb (s .head .term) 0) _ h3 in
+    let h5 = and-right (not (s .head .primary)) _ h4 in
+    let h6 = and-right (eqb (s .head .commit) 0) _ h5 in
     let l = empty-log-is (s .log) slots (eqb-true (s .log .len) 0 (and-left _ _ h)) (and-left _ _ h2) in
-    let t = eqb-true (s .term) 0 (and-left _ _ h3) in
-    let p = not-true (s .primary) (and-left _ _ h4) in
-    let k = eqb-true (s .commit) 0 (and-left _ _ h5) in
-    let w = eqb-true (s .wall) 0 (and-left _ _ h6) in
-    let m = sameTime-eq (s .time) zeroTime (and-right (eqb (s .wall) 0) _ h6) in
-    λ i. record { log = l i; term = t i; primary = p i; commit = k i; wall = w i; time = m i }
+    let t = eqb-true (s .head .term) 0 (and-left _ _ h3) in
+    let p = not-true (s .head .primary) (and-left _ _ h4) in
+    let k = eqb-true (s .head .commit) 0 (and-left _ _ h5) in
+    let w = eqb-true (s .head .wall) 0 (and-left _ _ h6) in
+    let m = sameTime-eq (s .head .time) zeroTime (and-right (eqb (s .head .wall) 0) _ h6) in
+    λ i. record { head = record { term = t i; primary = p i; commit = k i; wall = w i; time = m i }; log = l i }
 
 pub is-zero : (s : Server) → s ≡ zeroServer → zeroOk s ≡ true
 unfolding zeroOk

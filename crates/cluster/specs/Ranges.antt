@@ -5,16 +5,20 @@ use lib.ListN.{length}
 use Rattle.clock.specs.Times.{limit}
 use Rattle.clock.specs.Ranges.{FitsTime}
 use Rattle.log.specs.Ranges.{FitsLog}
+use Rattle.cluster.specs.declared.Head.{Head}
 use Rattle.cluster.specs.declared.Server.{Server}
 use Rattle.cluster.specs.declared.Cluster.{Cluster}
 use Rattle.cluster.specs.Servers.{mostServers, serverAt}
 
+pub record FitsHead (h : Head) : Type 0 where
+  pub term : h .term ≤ limit
+  pub commit : h .commit < 2 ^ 64
+  pub wall : h .wall ≤ limit
+  pub time : FitsTime (h .time)
+
 pub record FitsServer (s : Server) : Type 0 where
+  pub head : FitsHead (s .head)
   pub log : FitsLog (s .log)
-  pub term : s .term ≤ limit
-  pub commit : s .commit < 2 ^ 64
-  pub wall : s .wall ≤ limit
-  pub time : FitsTime (s .time)
 
 pub record Fits (c : Cluster) : Type 0 where
   pub count : c .count < 2 ^ 64

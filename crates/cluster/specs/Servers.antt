@@ -1,12 +1,15 @@
 -- The fixed records of 01, and records with one server or all servers changed. Assumes nothing.
 use mathlib.Core.List.{[]}
-use mathlib.Core.Bool.{false, cond}
+use mathlib.Core.Bool.{Bool, false, cond}
 use Prim.Native.Nat.{ℕ, min}
 use lib.Dec.{eqb, ltb}
 use lib.ListN.{getD, set, replicate}
 use Rattle.base.specs.Lists.{each}
+use Rattle.clock.specs.declared.Time.{Time}
 use Rattle.clock.specs.Times.{zeroTime}
+use Rattle.log.specs.declared.Log.{Log}
 use Rattle.log.specs.Logs.{emptyLog}
+use Rattle.cluster.specs.declared.Head.{Head}
 use Rattle.cluster.specs.declared.Server.{Server}
 use Rattle.cluster.specs.declared.Cluster.{Cluster}
 use Rattle.cluster.specs.declared.Change.{Change}
@@ -20,16 +23,42 @@ fewestServers = 2
 abbrev pub mostServers : ℕ
 mostServers = 7
 
+-- what a step doesn't name is unchanged: a head, and a server, with one field changed
+abbrev pub withTerm : Head → ℕ → Head
+withTerm h t = record { term = t; primary = h .primary; commit = h .commit; wall = h .wall; time = h .time }
+
+abbrev pub withPrimary : Head → Bool → Head
+withPrimary h p = record { term = h .term; primary = p; commit = h .commit; wall = h .wall; time = h .time }
+
+abbrev pub withCommit : Head → ℕ → Head
+withCommit h n = record { term = h .term; primary = h .primary; commit = n; wall = h .wall; time = h .time }
+
+abbrev pub withWall : Head → ℕ → Head
+withWall h w = record { term = h .term; primary = h .primary; commit = h .commit; wall = w; time = h .time }
+
+abbrev pub withTime : Head → Time → Head
+withTime h t = record { term = h .term; primary = h .primary; commit = h .commit; wall = h .wall; time = t }
+
+abbrev pub withHead : Server → Head → Server
+withHead s h = record { head = h; log = s .log }
+
+abbrev pub withLog : Server → Log → Server
+withLog s g = record { head = s .head; log = g }
+
+-- all zero, secondary
+abbrev pub zeroHead : Head
+zeroHead = record { term = 0; primary = false; commit = 0; wall = 0; time = zeroTime }
+
 abbrev pub zeroServer : Server
-zeroServer = record { log = emptyLog; term = 0; primary = false; commit = 0; wall = 0; time = zeroTime }
+zeroServer = record { head = zeroHead; log = emptyLog }
 
 -- secondary, term 0, log empty, commit point 0, wall clock 1, cluster time (0,0)
 abbrev pub freshServer : Server
-freshServer = record { log = emptyLog; term = 0; primary = false; commit = 0; wall = 1; time = zeroTime }
+freshServer = withHead zeroServer (withWall zeroHead 1)
 
 -- what the language takes for an element past an array's end
 abbrev pub pastServer : Server
-pastServer = record { log = record { entries = []; len = 0 }; term = 0; primary = false; commit = 0; wall = 0; time = zeroTime }
+pastServer = withLog zeroServer (record { entries = []; len = 0 })
 
 -- the server count, cut at seven so that it is one for every record
 abbrev pub serverCount : Cluster → ℕ
@@ -55,16 +84,14 @@ withServer c i s = record { count = c .count; servers = set (c .servers) i s }
 
 -- server i after an election of a by the set m into the term t: every member has the term; a primary, other members secondary
 unfoldable pub votedOf : ℕ → ℕ → ℕ → ℕ → Server → Server
-votedOf a m t i s =
-    cond (member m i) (record { log = s .log; term = t; primary = eqb i a; commit = s .commit; wall = s .wall; time = s .time }) s
+votedOf a m t i s = cond (member m i) (withHead s (withPrimary (withTerm (s .head) t) (eqb i a))) s
 
 abbrev pub electedAll : Cluster → ℕ → ℕ → ℕ → Cluster
 electedAll c a m t = record { count = c .count; servers = each (votedOf a m t) (c .servers) }
 
 -- server i with the wall clock w, where it is one of the first n
 unfoldable pub clockedOf : ℕ → ℕ → ℕ → Server → Server
-clockedOf n w i s =
-    cond (ltb i n) (record { log = s .log; term = s .term; primary = s .primary; commit = s .commit; wall = w; time = s .time }) s
+clockedOf n w i s = cond (ltb i n) (withHead s (withWall (s .head) w)) s
 
 abbrev pub clocksSet : Cluster → ℕ → Cluster
 clocksSet c w = record { count = c .count; servers = each (clockedOf (c .count) w) (c .servers) }

@@ -12,19 +12,19 @@ use Rattle.cluster.specs.Servers.{fewestServers, mostServers, serverAt}
 
 -- the commit point is not above the length; a counted server's wall clock is at least 1; a primary's term is at least 1
 unfoldable pub numbersOk : Server → Bool
-numbersOk s = leb (s .commit) (s .log .len) && (leb 1 (s .wall) && cond (s .primary) (leb 1 (s .term)) true)
+numbersOk s = leb (s .head .commit) (s .log .len) && (leb 1 (s .head .wall) && cond (s .head .primary) (leb 1 (s .head .term)) true)
 
 -- a counted server: its log is in order, and the last time is not above its cluster time
 unfoldable pub countedOk : Server → Bool
 countedOk s =
-    logOk (s .term) (s .log) && (not (isBefore (s .time) (appliedTime (live (s .log)))) && numbersOk s)
+    logOk (s .head .term) (s .log) && (not (isBefore (s .head .time) (appliedTime (live (s .log)))) && numbersOk s)
 
 -- a server past the count: zero, secondary
 unfoldable pub zeroOk : Server → Bool
 zeroOk s =
     eqb (s .log .len) 0
     && (restZero (s .log) 0
-    && (eqb (s .term) 0 && (not (s .primary) && (eqb (s .commit) 0 && (eqb (s .wall) 0 && sameTime (s .time) zeroTime)))))
+    && (eqb (s .head .term) 0 && (not (s .head .primary) && (eqb (s .head .commit) 0 && (eqb (s .head .wall) 0 && sameTime (s .head .time) zeroTime)))))
 
 unfoldable pub serverOk : Bool → Server → Bool
 serverOk counted s = cond counted (countedOk s) (zeroOk s)

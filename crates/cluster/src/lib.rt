@@ -8,13 +8,19 @@ use log::Log;
 
 pub mod sets;
 
-pub struct Server {
-    pub log: Log,
+// What a server keeps beside its log, apart from it so that a kind that touches no log is told of heads alone.
+pub struct Head {
     pub term: u16,
     pub primary: bool,
     pub commit: usize,
     pub wall: u16,
     pub time: Time,
+}
+
+// What comes later stands beside the two: a step names what it changes, `Server { head: h, ..s }`.
+pub struct Server {
+    pub head: Head,
+    pub log: Log,
 }
 
 pub struct Cluster {
@@ -33,8 +39,7 @@ pub const FEWEST_SERVERS: usize = 2;
 
 pub const MOST_SERVERS: usize = 7;
 
-pub const ZERO_SERVER: Server = Server {
-    log: log::EMPTY_LOG,
+const ZERO_HEAD: Head = Head {
     term: 0,
     primary: false,
     commit: 0,
@@ -42,13 +47,17 @@ pub const ZERO_SERVER: Server = Server {
     time: clock::ZERO_TIME,
 };
 
-pub const FRESH_SERVER: Server = Server {
+pub const ZERO_SERVER: Server = Server {
+    head: ZERO_HEAD,
     log: log::EMPTY_LOG,
-    term: 0,
-    primary: false,
-    commit: 0,
-    wall: 1,
-    time: clock::ZERO_TIME,
+};
+
+pub const FRESH_SERVER: Server = Server {
+    head: Head {
+        wall: 1,
+        ..ZERO_HEAD
+    },
+    ..ZERO_SERVER
 };
 
 pub const ZERO_CLUSTER: Cluster = Cluster {
@@ -110,9 +119,13 @@ pub fn voted(s: Server, i: usize, a: usize, set: u8, term: u16) -> Server
     ensures { λ r. ⌜ r ≡ votedOf a set term i s ⌝ }
 {
     if sets::is_member(set, i) {
+        let h = s.head;
         Server {
-            term: term,
-            primary: i == a,
+            head: Head {
+                term: term,
+                primary: i == a,
+                ..h
+            },
             ..s
         }
     } else {
@@ -125,7 +138,11 @@ pub fn clocked(s: Server, i: usize, count: usize, wall: u16) -> Server
     ensures { λ r. ⌜ r ≡ clockedOf count wall i s ⌝ }
 {
     if i < count {
-        Server { wall: wall, ..s }
+        let h = s.head;
+        Server {
+            head: Head { wall: wall, ..h },
+            ..s
+        }
     } else {
         s
     }
@@ -185,13 +202,17 @@ pub fn set_clocks(c: Cluster, wall: u16) -> Cluster
 pub fn numbers_ok(s: Server) -> bool
     ensures { λ r. ⌜ r ≡ numbersOk s ⌝ }
 {
-    if s.log.len < s.commit {
+    if s.log.len < s.head.commit {
         return false;
     }
-    if s.wall < 1 {
+    if s.head.wall < 1 {
         return false;
     }
-    if s.primary { 1 <= s.term } else { true }
+    if s.head.primary {
+        1 <= s.head.term
+    } else {
+        true
+    }
 }
 
 // Whether a counted server may stand in a well-formed record.
@@ -199,11 +220,11 @@ pub fn counted_ok(s: Server) -> bool
     ensures { λ r. ⌜ r ≡ countedOk s ⌝ }
 {
     let g = s.log;
-    if !log::log_ok(g, s.term) {
+    if !log::log_ok(g, s.head.term) {
         return false;
     }
     let last = log::applied_time(g);
-    let now = s.time;
+    let now = s.head.time;
     if clock::is_before(now, last) {
         return false;
     }
@@ -221,19 +242,19 @@ pub fn zero_ok(s: Server) -> bool
     if !log::rest_zero(g, 0) {
         return false;
     }
-    if s.term != 0 {
+    if s.head.term != 0 {
         return false;
     }
-    if s.primary {
+    if s.head.primary {
         return false;
     }
-    if s.commit != 0 {
+    if s.head.commit != 0 {
         return false;
     }
-    if s.wall != 0 {
+    if s.head.wall != 0 {
         return false;
     }
-    let t = s.time;
+    let t = s.head.time;
     clock::same_time(t, clock::ZERO_TIME)
 }
 

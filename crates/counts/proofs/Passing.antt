@@ -27,21 +27,21 @@ module _ (c : Cluster) (s : Server) where
 
 -- ---- the loop
 
-pub passes-low : (c : Cluster) (s : Server) (n : ℕ) → n ≤ s .commit → passes c s n ≡ false
+pub passes-low : (c : Cluster) (s : Server) (n : ℕ) → n ≤ s .head .commit → passes c s n ≡ false
 unfolding passes
-passes-low c s n h = rw (le-ltb (s .commit) n h)
+passes-low c s n h = rw (le-ltb (s .head .commit) n h)
 
 -- e is the entry at n, and k servers back it
-module _ (c : Cluster) (s : Server) (n : ℕ) (e : Entry) (k : ℕ) (h : s .commit < n) (l : n ≤ lengthOf (s .log)) (p : e ≡ entryAt (live (s .log)) n) (q : k ≡ backers c s n) where
-  passes-is : passes c s n ≡ (eqb (e .term) (s .term) && ltb (serverCount c) (k * 2))
+module _ (c : Cluster) (s : Server) (n : ℕ) (e : Entry) (k : ℕ) (h : s .head .commit < n) (l : n ≤ lengthOf (s .log)) (p : e ≡ entryAt (live (s .log)) n) (q : k ≡ backers c s n) where
+  passes-is : passes c s n ≡ (eqb (e .term) (s .head .term) && ltb (serverCount c) (k * 2))
   unfolding passes
-  passes-is = simp (lt-ltb (s .commit) n h, le-leb n (lengthOf (s .log)) l, ← p, ← q)
+  passes-is = simp (lt-ltb (s .head .commit) n h, le-leb n (lengthOf (s .log)) l, ← p, ← q)
 
-  pub passes-yes : e .term ≡ s .term → serverCount c < k * 2 → passes c s n ≡ true
-  passes-yes a b = passes-is ∙ simp (eq-eqb (e .term) (s .term) a, lt-ltb (serverCount c) (k * 2) b)
+  pub passes-yes : e .term ≡ s .head .term → serverCount c < k * 2 → passes c s n ≡ true
+  passes-yes a b = passes-is ∙ simp (eq-eqb (e .term) (s .head .term) a, lt-ltb (serverCount c) (k * 2) b)
 
-  pub passes-old : (e .term ≡ s .term → ⊥) → passes c s n ≡ false
-  passes-old a = passes-is ∙ simp (ne-eqb (e .term) (s .term) a)
+  pub passes-old : (e .term ≡ s .head .term → ⊥) → passes c s n ≡ false
+  passes-old a = passes-is ∙ simp (ne-eqb (e .term) (s .head .term) a)
 
   pub passes-few : k * 2 ≤ serverCount c → passes c s n ≡ false
-  passes-few b = passes-is ∙ rw (le-ltb (serverCount c) (k * 2) b) (and-no (eqb (e .term) (s .term)) false refl)
+  passes-few b = passes-is ∙ rw (le-ltb (serverCount c) (k * 2) b) (and-no (eqb (e .term) (s .head .term)) false refl)

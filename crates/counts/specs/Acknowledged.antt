@@ -21,7 +21,7 @@ holders c s n = count (serverCount c) (λ i. equalAt (live (serverAt c i .log)) 
 
 -- with count 0, s's commit point has reached the position; otherwise at least that many servers hold an equal entry
 unfoldable pub isAcknowledged : Cluster → Server → ℕ → ℕ → Bool
-isAcknowledged c s k n = cond (eqb k 0) (leb n (s .commit)) (leb k (holders c s n))
+isAcknowledged c s k n = cond (eqb k 0) (leb n (s .head .commit)) (leb k (holders c s n))
 
 -- s's log has an entry of that term at that position
 unfoldable pub hasEntry : Server → ℕ → ℕ → Bool

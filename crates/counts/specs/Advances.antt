@@ -8,7 +8,7 @@ use Rattle.log.specs.Entries.{entryAt, equalAt}
 use Rattle.log.specs.Logs.{live, lengthOf}
 use Rattle.cluster.specs.declared.Server.{Server}
 use Rattle.cluster.specs.declared.Cluster.{Cluster}
-use Rattle.cluster.specs.Servers.{serverCount, serverAt, withServer}
+use Rattle.cluster.specs.Servers.{withCommit, withHead, serverCount, serverAt, withServer}
 use Rattle.cluster.specs.Sets.{mostOf}
 use Rattle.steps.specs.declared.Outcome.{Outcome}
 use Rattle.steps.specs.declared.Answer.the-variants.{Reached}
@@ -18,7 +18,7 @@ use Rattle.steps.specs.Answers.{refusingAll}
 
 -- server t counts for position n at s: it has s's term and an equal entry at n
 unfoldable pub backs : Server → ℕ → Server → Bool
-backs s n t = eqb (t .term) (s .term) && equalAt (live (t .log)) (live (s .log)) n
+backs s n t = eqb (t .head .term) (s .head .term) && equalAt (live (t .log)) (live (s .log)) n
 
 -- how many servers do
 abbrev pub backers : Cluster → Server → ℕ → ℕ
@@ -27,9 +27,9 @@ backers c s n = count (serverCount c) (λ i. backs s n (serverAt c i))
 -- position n is above s's commit point and at most its length, entry n has s's current term, and a majority of servers back it
 unfoldable pub passes : Cluster → Server → ℕ → Bool
 passes c s n =
-    ltb (s .commit) n
+    ltb (s .head .commit) n
     && (leb n (lengthOf (s .log))
-    && (eqb (entryAt (live (s .log)) n .term) (s .term) && mostOf (serverCount c) (backers c s n)))
+    && (eqb (entryAt (live (s .log)) n .term) (s .head .term) && mostOf (serverCount c) (backers c s n)))
 
 -- the highest position that passes, 0 if none does
 unfoldable pub highestPassing : Cluster → Server → ℕ
@@ -39,14 +39,13 @@ highestPassing c s = highest (passes c s) (lengthOf (s .log))
 abbrev pub advanceRules : Cluster → ℕ → Rules
 advanceRules c a =
     (ltb a (serverCount c), OutOfRange)
-    ∷ (serverAt c a .primary, WrongRole)
+    ∷ (serverAt c a .head .primary, WrongRole)
     ∷ (leb 1 (highestPassing c (serverAt c a)), ConditionUnmet)
     ∷ []
 
 -- the server with this commit point
 abbrev pub committedOf : Server → ℕ → Server
-committedOf s n =
-    record { log = s .log; term = s .term; primary = s .primary; commit = n; wall = s .wall; time = s .time }
+committedOf s n = withHead s (withCommit (s .head) n)
 
 -- the answer is the new commit point
 abbrev pub advanceDone : Cluster → ℕ → Outcome

@@ -31,7 +31,7 @@ pub fn is_acknowledged(c: Cluster, s: Server, k: usize, n: usize) -> bool
     ensures { λ r. ⌜ r ≡ isAcknowledged c s k n ⌝ }
 {
     if k == 0 {
-        return n <= s.commit;
+        return n <= s.head.commit;
     }
     k <= holders_of(c, s, n)
 }

@@ -2,6 +2,7 @@
 ghost use mathlib.Core.Path.{_≡_};
 ghost use Rattle.counts.specs.Advances.{backs, highestPassing, advancesOf};
 use cluster::Cluster;
+use cluster::Head;
 use cluster::Server;
 use steps::Answer;
 use steps::Outcome;
@@ -11,7 +12,7 @@ use steps::Refusal;
 pub fn does_back(s: Server, n: usize, t: Server) -> bool
     ensures { λ r. ⌜ r ≡ backs s n t ⌝ }
 {
-    if t.term != s.term {
+    if t.head.term != s.head.term {
         return false;
     }
     let g = t.log;
@@ -27,7 +28,7 @@ pub fn highest_passing(c: Cluster, s: Server) -> usize
     let g = s.log;
     let mut n = log::length_of(g);
     let found = loop {
-        if n <= s.commit {
+        if n <= s.head.commit {
             break 0;
         }
         let mut k = 0;
@@ -40,7 +41,7 @@ pub fn highest_passing(c: Cluster, s: Server) -> usize
             i += 1;
         }
         let e = log::entry_at(g, n);
-        if e.term == s.term {
+        if e.term == s.head.term {
             if size < k * 2 {
                 break n;
             }
@@ -57,14 +58,18 @@ pub fn advances(c: Cluster, a: usize) -> Outcome
         return steps::refuse_all(c, Refusal::OutOfRange);
     }
     let s = c.servers[a];
-    if !s.primary {
+    if !s.head.primary {
         return steps::refuse_all(c, Refusal::WrongRole);
     }
     let n = highest_passing(c, s);
     if n < 1 {
         return steps::refuse_all(c, Refusal::ConditionUnmet);
     }
-    let t = Server { commit: n, ..s };
+    let h = s.head;
+    let t = Server {
+        head: Head { commit: n, ..h },
+        ..s
+    };
     Outcome {
         cluster: cluster::with_server(c, a, t),
         answer: Answer::Reached(n),

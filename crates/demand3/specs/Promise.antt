@@ -87,7 +87,7 @@ pub record StretchPromise {text : List ℕ} (t : Stretch text) : Type 0 where
   pub fresh : opening t ≡ freshCluster (t .count)
   pub counted : later t .count ≡ t .count
   -- whatever a server's commit point covers at the moment is kept ever after
-  pub kept : (s k : ℕ) → s < t .count → 1 ≤ k → k ≤ serverAt (moment t) s .commit → KeptFor (moment t) (later t) s k
+  pub kept : (s k : ℕ) → s < t .count → 1 ≤ k → k ≤ serverAt (moment t) s .head .commit → KeptFor (moment t) (later t) s k
   -- refusal 9 is never given, before the moment, after it, or to any line that comes next
   pub never-9-until : Never9On (opening t) (t .until)
   pub never-9-onward : Never9On (moment t) (t .onward)

@@ -5,29 +5,29 @@ use lib.Dec.{ltb}
 use Rattle.clock.specs.Times.{laterOf}
 use Rattle.log.specs.Entries.{equalAt}
 use Rattle.log.specs.Logs.{live}
+use Rattle.cluster.specs.declared.Head.{Head}
 use Rattle.cluster.specs.declared.Server.{Server}
+use Rattle.cluster.specs.Servers.{withTerm, withPrimary, withCommit, withTime, withHead}
 use Rattle.steps.specs.declared.Stepped.{Stepped}
 use Rattle.steps.specs.declared.Answer.the-variants.{Done}
 
 -- b's commit point is above a's, and a holds an entry equal to b's there
 unfoldable pub takesCommit : Server → Server → Bool
-takesCommit s t = ltb (s .commit) (t .commit) && equalAt (live (s .log)) (live (t .log)) (t .commit)
+takesCommit s t = ltb (s .head .commit) (t .head .commit) && equalAt (live (s .log)) (live (t .log)) (t .head .commit)
 
 -- if b's term is higher, a is secondary
 abbrev pub staysPrimary : Server → Server → Bool
-staysPrimary s t = s .primary && not (ltb (s .term) (t .term))
+staysPrimary s t = s .head .primary && not (ltb (s .head .term) (t .head .term))
+
+-- the greater term and the later cluster time of both
+abbrev pub raisedTo : Head → Head → Head
+raisedTo h k = withTime (withTerm h (max (h .term) (k .term))) (laterOf (h .time) (k .time))
 
 -- the cluster time becomes the later of both; if b's term is higher, a takes it and is secondary; it may take b's commit point
 unfoldable pub heardOf : Server → Server → Server
 heardOf s t =
-    record {
-      log = s .log;
-      term = max (s .term) (t .term);
-      primary = staysPrimary s t;
-      commit = cond (takesCommit s t) (t .commit) (s .commit);
-      wall = s .wall;
-      time = laterOf (s .time) (t .time);
-    }
+    withHead s
+    (withCommit (withPrimary (raisedTo (s .head) (t .head)) (staysPrimary s t)) (cond (takesCommit s t) (t .head .commit) (s .head .commit)))
 
 abbrev pub hearsOf : Server → Server → Stepped
 hearsOf s t = record { server = heardOf s t; answer = Done }

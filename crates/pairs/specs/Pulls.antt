@@ -3,16 +3,17 @@ use mathlib.Core.List.{[], _∷_}
 use mathlib.Core.Bool.{Bool, not, _||_}
 use Prim.Native.Nat.{ℕ, max}
 use lib.Dec.{eqb, ltb}
-use Rattle.clock.specs.Times.{laterOf}
 use Rattle.log.specs.declared.Log.{Log}
 use Rattle.log.specs.Entries.{equalAt}
 use Rattle.log.specs.Logs.{live, lengthOf, joined}
 use Rattle.cluster.specs.declared.Server.{Server}
+use Rattle.cluster.specs.Servers.{withCommit, withHead, withLog}
 use Rattle.steps.specs.declared.Stepped.{Stepped}
 use Rattle.steps.specs.declared.Answer.the-variants.{Reached}
 use Rattle.steps.specs.declared.Refusal.the-variants.{WrongRole, ConditionUnmet}
 use Rattle.steps.specs.Refusals.{Rules, decided}
 use Rattle.steps.specs.Answers.{refusing}
+use Rattle.pairs.specs.Hears.{raisedTo}
 
 -- the log g of n entries is empty, or its last entry is equal to h's at that position
 abbrev pub mayJoin : Log → Log → ℕ → Bool
@@ -21,7 +22,7 @@ mayJoin g h n = eqb n 0 || equalAt (live g) (live h) n
 -- a secondary; a's log shorter than b's; a's log empty, or its last entry equal to b's at that position
 abbrev pub pullRules : Server → Server → Rules
 pullRules s t =
-    (not (s .primary), WrongRole)
+    (not (s .head .primary), WrongRole)
     ∷ (ltb (lengthOf (s .log)) (lengthOf (t .log)), ConditionUnmet)
     ∷ (mayJoin (s .log) (t .log) (lengthOf (s .log)), ConditionUnmet)
     ∷ []
@@ -29,14 +30,7 @@ pullRules s t =
 -- a with the log g; term, cluster time and commit point each the greater of both
 unfoldable pub tookOf : Server → Server → Log → Server
 tookOf s t g =
-    record {
-      log = g;
-      term = max (s .term) (t .term);
-      primary = s .primary;
-      commit = max (s .commit) (t .commit);
-      wall = s .wall;
-      time = laterOf (s .time) (t .time);
-    }
+    withLog (withHead s (withCommit (raisedTo (s .head) (t .head)) (max (s .head .commit) (t .head .commit)))) g
 
 -- a's log gets the rest of b's
 abbrev pub pulledOf : Server → Server → Server

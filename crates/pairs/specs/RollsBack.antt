@@ -20,11 +20,11 @@ common s t = commonBeginning (live (s .log)) (live (t .log))
 -- is shorter than a's commit point
 abbrev pub rollRules : Server → Server → Rules
 rollRules s t =
-    (not (s .primary), WrongRole)
+    (not (s .head .primary), WrongRole)
     ∷ (leb 1 (lengthOf (s .log)), ConditionUnmet)
     ∷ (ltb (lastTerm (live (s .log))) (lastTerm (live (t .log))), ConditionUnmet)
     ∷ (not (isBeginning (live (s .log)) (live (t .log))), ConditionUnmet)
-    ∷ (leb (s .commit) (common s t), BelowCommitPoint)
+    ∷ (leb (s .head .commit) (common s t), BelowCommitPoint)
     ∷ []
 
 -- a keeps the longest common beginning, then the rest of b's log; term, cluster time, commit point as in 4

@@ -2,6 +2,7 @@
 ghost use mathlib.Core.Path.{_≡_};
 ghost use Rattle.pairs.specs.Hears.{takesCommit, staysPrimary, hearsOf};
 use super::greater_term;
+use cluster::Head;
 use cluster::Server;
 use steps::Answer;
 use steps::Stepped;
@@ -10,42 +11,46 @@ use steps::Stepped;
 pub fn takes_commit(s: Server, t: Server) -> bool
     ensures { λ r. ⌜ r ≡ takesCommit s t ⌝ }
 {
-    if t.commit <= s.commit {
+    if t.head.commit <= s.head.commit {
         return false;
     }
     let g = s.log;
     let h = t.log;
-    log::equal_at(g, h, t.commit)
+    log::equal_at(g, h, t.head.commit)
 }
 
 // Whether a stays primary, hearing b: a higher term makes it secondary.
 pub fn stays_primary(s: Server, t: Server) -> bool
     ensures { λ r. ⌜ r ≡ staysPrimary s t ⌝ }
 {
-    if s.term < t.term {
+    if s.head.term < t.head.term {
         return false;
     }
-    s.primary
+    s.head.primary
 }
 
 pub fn hears(s: Server, t: Server) -> Stepped
     ensures { λ r. ⌜ r ≡ hearsOf s t ⌝ }
 {
-    let x = s.time;
-    let y = t.time;
+    let h = s.head;
+    let x = h.time;
+    let y = t.head.time;
     let time = clock::later(x, y);
-    let term = greater_term(s.term, t.term);
+    let term = greater_term(h.term, t.head.term);
     let primary = stays_primary(s, t);
-    let mut commit = s.commit;
+    let mut commit = h.commit;
     if takes_commit(s, t) {
-        commit = t.commit;
+        commit = t.head.commit;
     }
     Stepped {
         server: Server {
-            term: term,
-            primary: primary,
-            commit: commit,
-            time: time,
+            head: Head {
+                term: term,
+                primary: primary,
+                commit: commit,
+                time: time,
+                ..h
+            },
             ..s
         },
         answer: Answer::Done,

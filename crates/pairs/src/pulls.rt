@@ -3,6 +3,7 @@ ghost use mathlib.Core.Path.{_≡_};
 ghost use Rattle.pairs.specs.Pulls.{mayJoin, tookOf, pullsOf};
 use super::greater;
 use super::greater_term;
+use cluster::Head;
 use cluster::Server;
 use log::Log;
 use steps::Answer;
@@ -13,16 +14,20 @@ use steps::Stepped;
 pub fn took(s: Server, t: Server, g: Log) -> Server
     ensures { λ r. ⌜ r ≡ tookOf s t g ⌝ }
 {
-    let x = s.time;
-    let y = t.time;
+    let h = s.head;
+    let x = h.time;
+    let y = t.head.time;
     let time = clock::later(x, y);
-    let term = greater_term(s.term, t.term);
-    let commit = greater(s.commit, t.commit);
+    let term = greater_term(h.term, t.head.term);
+    let commit = greater(h.commit, t.head.commit);
     Server {
+        head: Head {
+            term: term,
+            commit: commit,
+            time: time,
+            ..h
+        },
         log: g,
-        term: term,
-        commit: commit,
-        time: time,
         ..s
     }
 }
@@ -42,7 +47,7 @@ pub fn pulls(s: Server, t: Server) -> Stepped
 {
     let g = s.log;
     let h = t.log;
-    if s.primary {
+    if s.head.primary {
         return steps::refuse(s, Refusal::WrongRole);
     }
     let n = log::length_of(g);

@@ -12,7 +12,7 @@ pub fn rolls_back(s: Server, t: Server) -> Stepped
 {
     let g = s.log;
     let h = t.log;
-    if s.primary {
+    if s.head.primary {
         return steps::refuse(s, Refusal::WrongRole);
     }
     if log::length_of(g) < 1 {
@@ -25,7 +25,7 @@ pub fn rolls_back(s: Server, t: Server) -> Stepped
         return steps::refuse(s, Refusal::ConditionUnmet);
     }
     let k = log::common_beginning(g, h);
-    if k < s.commit {
+    if k < s.head.commit {
         return steps::refuse(s, Refusal::BelowCommitPoint);
     }
     let joined = log::join(g, h, k);

@@ -63,15 +63,15 @@ module _ {c : Cluster} (h : Sound c) where
       changed-sound h (votedOf a m (newTerm c a)) (λ i l. new i l (member m i) refl)
       (λ i l. voted-outside a m (newTerm c a) i zeroServer (none i l (member m i) refl))
     where
-      up : (i : ℕ) → i < c .count → member m i ≡ true → serverAt c i .term < newTerm c a
+      up : (i : ℕ) → i < c .count → member m i ≡ true → serverAt c i .head .term < newTerm c a
       up i l e =
           let v = voter-may c (serverAt c a) m (k .1 .1 .1 .1 .0) i (omega (arith, h .good .at-most-seven)) e in
-          omega (arith, leb-true (serverAt c i .term) (serverAt c a .term) (and-left _ _ v))
+          omega (arith, leb-true (serverAt c i .head .term) (serverAt c a .head .term) (and-left _ _ v))
 
       new : (i : ℕ) → i < c .count → (b : Bool) → member m i ≡ b → ServerSound (votedOf a m (newTerm c a) i (serverAt c i))
       new i l true e =
           rw (voted-inside a m (newTerm c a) i (serverAt c i) e)
-          (voted-sound (counted-sound h i l) (newTerm c a) (eqb i a) (up i l e) (omega (arith, ltb-true (serverAt c a .term) limit (k .1 .1 .1 .1 .1 .0))))
+          (voted-sound (counted-sound h i l) (newTerm c a) (eqb i a) (up i l e) (omega (arith, ltb-true (serverAt c a .head .term) limit (k .1 .1 .1 .1 .1 .0))))
       new i l false e = rw (voted-outside a m (newTerm c a) i (serverAt c i) e) (counted-sound h i l)
 
       none : (i : ℕ) → c .count ≤ i → (b : Bool) → member m i ≡ b → b ≡ false
@@ -90,12 +90,12 @@ module _ {c : Cluster} (h : Sound c) where
       from i l =
           omega (
             arith,
-            greatest-above (λ j. serverAt c j .wall) (serverCount c) i (omega (arith, h .good .at-most-seven)),
+            greatest-above (λ j. serverAt c j .head .wall) (serverCount c) i (omega (arith, h .good .at-most-seven)),
             h .good .counted i l .wall-clock,
           )
 
       to : greatestClock c ≤ limit
-      to = greatest-below (λ j. serverAt c j .wall) (serverCount c) limit (λ i l. h .fits .each i (omega arith) .wall)
+      to = greatest-below (λ j. serverAt c j .head .wall) (serverCount c) limit (λ i l. h .fits .each i (omega arith) .head .wall)
 
   -- a position that passes is one of the log
   advanced-sound : (a : ℕ) → ltb a (serverCount c) ≡ true → Sound (advanceDone c a .cluster)
@@ -116,7 +116,7 @@ done-sound c (Pulls a b) h f k = put (h refl) a _ (k .0) (λ x. pulled-sound x (
 done-sound c (RollsBack a b) h f k = put (h refl) a _ (k .0) (λ x. rolled-sound x (at (h refl) b (k .1 .0)) (k .1 .1 .1))
 done-sound c (Writes a key value) h f k = put (h refl) a _ (k .0) (λ x. wrote-sound x key value (f .number) (k .1))
 done-sound c (Advances a) h f k = advanced-sound (h refl) a (k .0)
-done-sound c (WallClock a) h f k = put (h refl) a _ (k .0) (λ x. wall-sound x _ (omega arith) (omega (arith, ltb-true (serverAt c a .wall) limit (k .1 .0))))
+done-sound c (WallClock a) h f k = put (h refl) a _ (k .0) (λ x. wall-sound x _ (omega arith) (omega (arith, ltb-true (serverAt c a .head .wall) limit (k .1 .0))))
 done-sound c (Restarts a) h f k = put (h refl) a _ (k .0) restarted-sound
 done-sound c (LocalRead a key asked) h f k = put (h refl) a _ (k .0) (λ x. x)
 done-sound c (MajorityRead a key asked) h f k = put (h refl) a _ (k .0) (λ x. x)

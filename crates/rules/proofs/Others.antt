@@ -14,7 +14,7 @@ use Rattle.base.proofs.Each.{length-eachFrom}
 use Rattle.base.proofs.Facts.{lt-or-le}
 use Rattle.cluster.specs.declared.Server.{Server}
 use Rattle.cluster.specs.declared.Cluster.{Cluster}
-use Rattle.cluster.specs.Servers.{pastServer, serverAt, withServer, votedOf, clockedOf}
+use Rattle.cluster.specs.Servers.{withTerm, withPrimary, withWall, withHead, pastServer, serverAt, withServer, votedOf, clockedOf}
 use Rattle.cluster.specs.Sets.{member}
 use Rattle.cluster.proofs.Changed.{replaced-others, changed-at}
 use Rattle.steps.specs.declared.Step.{Step}
@@ -31,11 +31,11 @@ use Rattle.rules.specs.Statements.{touches}
 
 -- a server in another office: another term and role
 abbrev pub officeOf : Server → ℕ → Bool → Server
-officeOf s t p = record { log = s .log; term = t; primary = p; commit = s .commit; wall = s .wall; time = s .time }
+officeOf s t p = withHead s (withPrimary (withTerm (s .head) t) p)
 
 -- a server with another wall clock
 abbrev pub wallOf : Server → ℕ → Server
-wallOf s w = record { log = s .log; term = s .term; primary = s .primary; commit = s .commit; wall = w; time = s .time }
+wallOf s w = withHead s (withWall (s .head) w)
 
 module _ (a m t i : ℕ) (s : Server) where
   pub voted-inside : member m i ≡ true → votedOf a m t i s ≡ officeOf s t (eqb i a)
@@ -132,42 +132,28 @@ count-unchanged c s e = ⊎-elim (λ d. rw (d .is) (done-count c s e)) (λ d. rw
 -- ---- what changes where several servers do
 
 -- an election changes only terms and roles
-pub record SameButOffice (s t : Server) : Type 0 where
-  pub log : t .log ≡ s .log
-  pub commit : t .commit ≡ s .commit
-  pub wall : t .wall ≡ s .wall
-  pub time : t .time ≡ s .time
+abbrev pub SameButOffice : Server → Server → Type 0
+SameButOffice s t = t ≡ officeOf s (t .head .term) (t .head .primary)
 
 pub elect-changes : (c : Cluster) (a m i : ℕ) → SameButOffice (serverAt c i) (serverAt (stepOf c (Elect a m) .cluster) i)
 unfolding rowOf
 elect-changes c a m i =
-    stepped-by SameButOffice itself c (Elect a m) i (changed-by SameButOffice itself (votedOf a m (newTerm c a)) c i (go (member m i) refl))
+    stepped-by SameButOffice (λ s. refl) c (Elect a m) i (changed-by SameButOffice (λ s. refl) (votedOf a m (newTerm c a)) c i (go (member m i) refl))
   where
-    itself : (s : Server) → SameButOffice s s
-    itself s = record { log = refl; commit = refl; wall = refl; time = refl }
-
     go : (b : Bool) → member m i ≡ b → SameButOffice (serverAt c i) (votedOf a m (newTerm c a) i (serverAt c i))
-    go true e = rw (voted-inside a m (newTerm c a) i (serverAt c i) e) (record { log = refl; commit = refl; wall = refl; time = refl })
-    go false e = rw (voted-outside a m (newTerm c a) i (serverAt c i) e) (itself (serverAt c i))
+    go true e = rw (voted-inside a m (newTerm c a) i (serverAt c i) e)
+    go false e = rw (voted-outside a m (newTerm c a) i (serverAt c i) e)
 
 -- clocks that agree change only wall clocks
-pub record SameButClock (s t : Server) : Type 0 where
-  pub log : t .log ≡ s .log
-  pub term : t .term ≡ s .term
-  pub primary : t .primary ≡ s .primary
-  pub commit : t .commit ≡ s .commit
-  pub time : t .time ≡ s .time
+abbrev pub SameButClock : Server → Server → Type 0
+SameButClock s t = t ≡ wallOf s (t .head .wall)
 
 pub agree-changes : (c : Cluster) (i : ℕ) → SameButClock (serverAt c i) (serverAt (stepOf c ClocksAgree .cluster) i)
 unfolding rowOf
 agree-changes c i =
-    stepped-by SameButClock itself c ClocksAgree i (changed-by SameButClock itself (clockedOf (c .count) (greatestClock c)) c i (go (ltb i (c .count)) refl))
+    stepped-by SameButClock (λ s. refl) c ClocksAgree i
+    (changed-by SameButClock (λ s. refl) (clockedOf (c .count) (greatestClock c)) c i (go (ltb i (c .count)) refl))
   where
-    itself : (s : Server) → SameButClock s s
-    itself s = record { log = refl; term = refl; primary = refl; commit = refl; time = refl }
-
     go : (b : Bool) → ltb i (c .count) ≡ b → SameButClock (serverAt c i) (clockedOf (c .count) (greatestClock c) i (serverAt c i))
-    go true e =
-        rw (clocked-counted (c .count) (greatestClock c) i (serverAt c i) e)
-        (record { log = refl; term = refl; primary = refl; commit = refl; time = refl })
-    go false e = rw (clocked-past (c .count) (greatestClock c) i (serverAt c i) e) (itself (serverAt c i))
+    go true e = rw (clocked-counted (c .count) (greatestClock c) i (serverAt c i) e)
+    go false e = rw (clocked-past (c .count) (greatestClock c) i (serverAt c i) e)

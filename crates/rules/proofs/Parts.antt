@@ -39,7 +39,7 @@ module _ (c : Cluster) (a : ℕ) where
 
   pub core-down : singleOf c a (StepDown a) ≡ coreOf c (StepDown a)
   unfolding singleOf oneOf coreOf rowOf
-  core-down = in-place _ _ (placed c a (downDone (serverAt c a)) (downRules (serverAt c a)))
+  core-down = in-place _ _ (placed c a (downDone (serverAt c a)) (downRules (serverAt c a .head)))
 
   pub core-writes : (key value : ℕ) → singleOf c a (Writes a key value) ≡ coreOf c (Writes a key value)
   unfolding singleOf oneOf coreOf rowOf
@@ -47,7 +47,7 @@ module _ (c : Cluster) (a : ℕ) where
 
   pub core-clock : singleOf c a (WallClock a) ≡ coreOf c (WallClock a)
   unfolding singleOf oneOf coreOf rowOf
-  core-clock = in-place _ _ (placed c a (clockDone (serverAt c a)) (clockRules (serverAt c a)))
+  core-clock = in-place _ _ (placed c a (clockDone (serverAt c a)) (clockRules (serverAt c a .head)))
 
   pub core-restarts : singleOf c a (Restarts a) ≡ coreOf c (Restarts a)
   unfolding singleOf oneOf coreOf rowOf

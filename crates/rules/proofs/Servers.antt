@@ -27,14 +27,16 @@ use Rattle.log.proofs.Equal.{equal-at}
 use Rattle.log.proofs.Orderly.{EntryGood, LogGood}
 use Rattle.log.proofs.Positions.{length-more, last-more, last-joined}
 use Rattle.log.proofs.Tidy.{tidy-length, live-appended, tidy-appended, live-joined}
+use Rattle.cluster.specs.declared.Head.{Head}
 use Rattle.cluster.specs.declared.Server.{Server}
 use Rattle.cluster.specs.Ranges.{FitsServer}
+use Rattle.cluster.specs.Servers.{withPrimary, withHead}
+use Rattle.cluster.proofs.Changed.{fits-head, fits-log}
 use Rattle.cluster.proofs.Good.{ServerGood}
 use Rattle.steps.specs.Reasons.{Clear}
 use Rattle.pairs.specs.Hears.{takesCommit, heardOf}
 use Rattle.pairs.specs.Pulls.{pullRules, tookOf, pulledOf}
 use Rattle.pairs.specs.RollsBack.{common, rollRules, rolledOf}
-use Rattle.singles.specs.StepsDown.{downOf}
 use Rattle.singles.specs.Restarts.{restartedOf}
 use Rattle.singles.specs.Writes.{ticks, tickTime, writeRules, newEntry, wroteOf}
 use Rattle.counts.specs.Advances.{committedOf}
@@ -49,44 +51,39 @@ pub record ServerSound (s : Server) : Type 0 where
 
 -- ---- kinds that keep the log
 
--- a server with the same log: its other fields have to meet these
-pub log-kept : {s t : Server} → ServerSound s → t .log ≡ s .log → s .term ≤ t .term → t .term ≤ limit → (t .primary ≡ true → 1 ≤ t .term)
-    → t .commit ≤ s .log .len → 1 ≤ t .wall → t .wall ≤ limit → FitsTime (t .time) → isBefore (t .time) (appliedTime (live (s .log))) ≡ false → ServerSound t
-log-kept {s} {t} h same up term role commit wall clock time last =
+-- a server with the same log: its other head has to meet these
+pub log-kept : {s : Server} {h : Head} → ServerSound s → s .head .term ≤ h .term → h .term ≤ limit → (h .primary ≡ true → 1 ≤ h .term)
+    → h .commit ≤ s .log .len → 1 ≤ h .wall → h .wall ≤ limit → FitsTime (h .time) → isBefore (h .time) (appliedTime (live (s .log))) ≡ false
+    → ServerSound (withHead s h)
+log-kept x up term role commit wall clock time last =
     record {
-      fits = record { log = rw same (h .fits .log); term = term; commit = omega (arith, h .good .log .tidy .short); wall = clock; time = time };
-      good = record {
-        log = rw same (log-raised up (h .good .log));
-        last-time = rw same last;
-        commit-point = rw same commit;
-        wall-clock = wall;
-        primary-term = role;
-      };
+      fits = fits-head (x .fits) (record { term = term; commit = omega (arith, x .good .log .tidy .short); wall = clock; time = time });
+      good = record { log = log-raised up (x .good .log); last-time = last; commit-point = commit; wall-clock = wall; primary-term = role };
     }
 
 module _ {s : Server} (h : ServerSound s) where
-  pub down-sound : ServerSound (downOf s)
+  pub down-sound : ServerSound (withHead s (withPrimary (s .head) false))
   down-sound =
-      log-kept h refl (omega arith) (h .fits .term) (λ p. not-both false p refl) (h .good .commit-point) (h .good .wall-clock) (h .fits .wall) (h .fits .time) (h .good .last-time)
+      log-kept h (omega arith) (h .fits .head .term) (λ p. not-both false p refl) (h .good .commit-point) (h .good .wall-clock) (h .fits .head .wall) (h .fits .head .time) (h .good .last-time)
 
   pub wall-sound : (w : ℕ) → 1 ≤ w → w ≤ limit → ServerSound (wallOf s w)
   wall-sound w from to =
-      log-kept h refl (omega arith) (h .fits .term) (h .good .primary-term) (h .good .commit-point) from to (h .fits .time) (h .good .last-time)
+      log-kept h (omega arith) (h .fits .head .term) (h .good .primary-term) (h .good .commit-point) from to (h .fits .head .time) (h .good .last-time)
 
   pub restarted-sound : ServerSound (restartedOf s)
   restarted-sound =
-      log-kept h refl (omega arith) (h .fits .term) (λ p. not-both false p refl) (omega arith) (h .good .wall-clock) (h .fits .wall)
+      log-kept h (omega arith) (h .fits .head .term) (λ p. not-both false p refl) (omega arith) (h .good .wall-clock) (h .fits .head .wall)
       (fits-entry (h .fits .log) (lengthOf (s .log)) .time) (before-itself (appliedTime (live (s .log))))
 
   pub committed-sound : (n : ℕ) → n ≤ lengthOf (s .log) → ServerSound (committedOf s n)
   committed-sound n l =
-      log-kept h refl (omega arith) (h .fits .term) (h .good .primary-term) (omega (arith, tidy-length (h .good .log .tidy))) (h .good .wall-clock) (h .fits .wall) (h .fits .time)
+      log-kept h (omega arith) (h .fits .head .term) (h .good .primary-term) (omega (arith, tidy-length (h .good .log .tidy))) (h .good .wall-clock) (h .fits .head .wall) (h .fits .head .time)
       (h .good .last-time)
 
   -- a member takes a term that is above its own
-  pub voted-sound : (t : ℕ) (p : Bool) → s .term < t → t ≤ limit → ServerSound (officeOf s t p)
+  pub voted-sound : (t : ℕ) (p : Bool) → s .head .term < t → t ≤ limit → ServerSound (officeOf s t p)
   voted-sound t p up to =
-      log-kept h refl (omega arith) to (λ q. omega arith) (h .good .commit-point) (h .good .wall-clock) (h .fits .wall) (h .fits .time) (h .good .last-time)
+      log-kept h (omega arith) to (λ q. omega arith) (h .good .commit-point) (h .good .wall-clock) (h .fits .head .wall) (h .fits .head .time) (h .good .last-time)
 
 -- ---- kinds that look at another server
 
@@ -94,35 +91,34 @@ module _ {s t : Server} (h : ServerSound s) (k : ServerSound t) where
   pub heard-sound : ServerSound (heardOf s t)
   unfolding heardOf takesCommit
   heard-sound =
-      log-kept h refl (omega arith) (omega (arith, h .fits .term, k .fits .term)) (λ p. omega (arith, h .good .primary-term (and-left _ _ p))) (reached _ refl)
-      (h .good .wall-clock) (h .fits .wall) (fits-later (s .time) (t .time) (h .fits .time) (k .fits .time))
-      (not-after-trans _ (s .time) _ (h .good .last-time) (later-left (s .time) (t .time)))
+      log-kept h (omega arith) (omega (arith, h .fits .head .term, k .fits .head .term)) (λ p. omega (arith, h .good .primary-term (and-left _ _ p))) (reached _ refl)
+      (h .good .wall-clock) (h .fits .head .wall) (fits-later (s .head .time) (t .head .time) (h .fits .head .time) (k .fits .head .time))
+      (not-after-trans _ (s .head .time) _ (h .good .last-time) (later-left (s .head .time) (t .head .time)))
     where
       -- a commit point that is taken is a position of the own log
-      reached : (b : Bool) → (ltb (s .commit) (t .commit) && equalAt (live (s .log)) (live (t .log)) (t .commit)) ≡ b → cond b (t .commit) (s .commit) ≤ s .log .len
+      reached : (b : Bool) → (ltb (s .head .commit) (t .head .commit) && equalAt (live (s .log)) (live (t .log)) (t .head .commit)) ≡ b → cond b (t .head .commit) (s .head .commit) ≤ s .log .len
       reached true e =
           omega (
             arith,
             tidy-length (h .good .log .tidy),
-            equal-at (live (s .log)) (live (t .log)) (t .commit) (and-right (ltb (s .commit) (t .commit)) _ e) .left,
+            equal-at (live (s .log)) (live (t .log)) (t .head .commit) (and-right (ltb (s .head .commit) (t .head .commit)) _ e) .left,
           )
       reached false e = h .good .commit-point
 
-  took-sound : (g : Log) → LogGood (max (s .term) (t .term)) g → FitsLog g → appliedTime (live g) ≡ appliedTime (live (t .log))
-      → s .commit ≤ g .len → t .commit ≤ g .len → ServerSound (tookOf s t g)
+  took-sound : (g : Log) → LogGood (max (s .head .term) (t .head .term)) g → FitsLog g → appliedTime (live g) ≡ appliedTime (live (t .log))
+      → s .head .commit ≤ g .len → t .head .commit ≤ g .len → ServerSound (tookOf s t g)
   unfolding tookOf
   took-sound g order range last sc tc =
       record {
-        fits = record {
-          log = range;
-          term = omega (arith, h .fits .term, k .fits .term);
-          commit = omega (arith, h .fits .commit, k .fits .commit);
-          wall = h .fits .wall;
-          time = fits-later (s .time) (t .time) (h .fits .time) (k .fits .time);
-        };
+        fits = fits-log (fits-head (h .fits) (record {
+          term = omega (arith, h .fits .head .term, k .fits .head .term);
+          commit = omega (arith, h .fits .head .commit, k .fits .head .commit);
+          wall = h .fits .head .wall;
+          time = fits-later (s .head .time) (t .head .time) (h .fits .head .time) (k .fits .head .time);
+        })) range;
         good = record {
           log = order;
-          last-time = rw last (not-after-trans _ (t .time) _ (k .good .last-time) (later-right (s .time) (t .time)));
+          last-time = rw last (not-after-trans _ (t .head .time) _ (k .good .last-time) (later-right (s .head .time) (t .head .time)));
           commit-point = omega arith;
           wall-clock = h .good .wall-clock;
           primary-term = λ p. omega (arith, h .good .primary-term p);
@@ -151,7 +147,7 @@ module _ {s t : Server} (h : ServerSound s) (k : ServerSound t) where
   -- a rollback's log is the other server's
   pub rolled-sound : Clear (rollRules s t) → ServerSound (rolledOf s t)
   rolled-sound c =
-      let kept : s .commit ≤ common s t = leb-true _ _ (c .1 .1 .1 .1 .0) in
+      let kept : s .head .commit ≤ common s t = leb-true _ _ (c .1 .1 .1 .1 .0) in
       subst (λ (g : Log). ServerSound (tookOf s t g)) (sym (rolled-is (s .log) (t .log)))
       (took-sound (t .log) (log-raised (omega arith) (k .good .log)) (k .fits .log) refl
       (omega (arith, common-le (live (s .log)) (live (t .log)) .1, tidy-length (k .good .log .tidy))) (k .good .commit-point))
@@ -164,13 +160,13 @@ ticked-to AtLimit e = not-both false e refl
 
 module _ {s : Server} (h : ServerSound s) (key value : ℕ) (small : value ≤ limit) (c : Clear (writeRules s key value)) where
   -- the new time is after the cluster time, which is not before the applied time
-  wrote-at : (u : Time) → tickOf (s .wall) (s .time) ≡ To u → ServerSound (wroteOf s key value u)
+  wrote-at : (u : Time) → tickOf (s .head .wall) (s .head .time) ≡ To u → ServerSound (wroteOf s key value u)
   unfolding wroteOf
   wrote-at u tick =
       record {
-        fits = record { log = fits-appended (h .fits .log) entry-fits; term = h .fits .term; commit = h .fits .commit; wall = h .fits .wall; time = time-fits };
+        fits = fits-log (fits-head (h .fits) (record { term = h .fits .head .term; commit = h .fits .head .commit; wall = h .fits .head .wall; time = time-fits })) (fits-appended (h .fits .log) entry-fits);
         good = record {
-          log = appended-good (h .good .log) entry-good (omega arith) (then-before _ (s .time) u (h .good .last-time) (tick-after (s .wall) (s .time) u tick)) room;
+          log = appended-good (h .good .log) entry-good (omega arith) (then-before _ (s .head .time) u (h .good .last-time) (tick-after (s .head .wall) (s .head .time) u tick)) room;
           last-time = rw last (before-itself u);
           commit-point = omega (arith, longer, h .good .commit-point);
           wall-clock = h .good .wall-clock;
@@ -182,15 +178,15 @@ module _ {s : Server} (h : ServerSound s) (key value : ℕ) (small : value ≤ l
       room = omega (arith, ltb-true (lengthOf (s .log)) logLimit (c .1 .1 .1 .0), tidy-length (h .good .log .tidy))
 
       time-fits : FitsTime u
-      time-fits = fits-tick (s .wall) (s .time) u (h .fits .wall) (h .fits .time) tick
+      time-fits = fits-tick (s .head .wall) (s .head .time) u (h .fits .head .wall) (h .fits .head .time) tick
 
       keyed : key ≤ highestKey
       keyed = leb-true _ _ (c .0)
 
       entry-fits : FitsEntry (newEntry s key value u)
-      entry-fits = record { term = h .fits .term; key = omega (arith, keyed); value = small; time = time-fits }
+      entry-fits = record { term = h .fits .head .term; key = omega (arith, keyed); value = small; time = time-fits }
 
-      entry-good : EntryGood (s .term) (newEntry s key value u)
+      entry-good : EntryGood (s .head .term) (newEntry s key value u)
       entry-good = record { from-one = h .good .primary-term (c .1 .1 .0); not-above = omega arith; key = keyed; value = leb-true 1 value (c .1 .0) }
 
       live-is : live (appended (s .log) (newEntry s key value u)) ≡ live (s .log) ++ (newEntry s key value u ∷ [])
@@ -209,5 +205,5 @@ module _ {s : Server} (h : ServerSound s) (key value : ℕ) (small : value ≤ l
             length-more (live (s .log)) (newEntry s key value u),
           )
 
-  pub wrote-sound : ServerSound (wroteOf s key value (tickTime (tickOf (s .wall) (s .time))))
-  wrote-sound = wrote-at _ (ticked-to (tickOf (s .wall) (s .time)) (c .1 .1 .1 .1 .0))
+  pub wrote-sound : ServerSound (wroteOf s key value (tickTime (tickOf (s .head .wall) (s .head .time))))
+  wrote-sound = wrote-at _ (ticked-to (tickOf (s .head .wall) (s .head .time)) (c .1 .1 .1 .1 .0))

@@ -56,8 +56,8 @@ record Runs : Type 0 where
   well-formed : wellFormed fresh ≡ true
   elects : stepOf fresh election .answer ≡ A.Elected 1
   -- the election changes the record: server 0 was of term 0
-  fresh-term : serverAt fresh 0 .term ≡ 0
-  elected-term : serverAt (stepOf fresh election .cluster) 0 .term ≡ 1
+  fresh-term : serverAt fresh 0 .head .term ≡ 0
+  elected-term : serverAt (stepOf fresh election .cluster) 0 .head .term ≡ 1
   -- a read gives the log's value, and 0 for a key that was never written
   reads-written : stepOf written (reading 5) .answer ≡ A.Value 41 written-at
   reads-none : stepOf written (reading 6) .answer ≡ A.Value 0 written-at
@@ -114,7 +114,7 @@ echoing-differs p h = record { from = fresh; takes = election; differs = same }
     same : p fresh election ≡ stepOf fresh election → ⊥
     same e =
         let kept = sym (h fresh election (runs .well-formed)) ∙ ap (λ (o : Outcome). o .cluster) e in
-        let terms = ap (λ (c : Cluster). serverAt c 0 .term) kept in
+        let terms = ap (λ (c : Cluster). serverAt c 0 .head .term) kept in
         omega (arith, sym (runs .fresh-term) ∙ terms ∙ runs .elected-term)
 
 -- ---- the four programs

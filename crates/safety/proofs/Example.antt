@@ -57,7 +57,7 @@ end = runOf moment onwards
 
 -- ---- what is seen
 
-pub covered : serverAt moment 0 .commit ≡ 1
+pub covered : serverAt moment 0 .head .commit ≡ 1
 unfolding moment
 covered = refl
 

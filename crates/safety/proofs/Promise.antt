@@ -50,24 +50,24 @@ use Rattle.safety.proofs.Stepped.{Now, step-next, never-9}
 -- ---- a read that is answered
 
 -- the position that a read at s looks at is that of the last entry for the key
-found-is : (s : Server) (key p : ℕ) → 1 ≤ p → s .commit ≤ lengthOf (s .log) → LastFor (seenServer s .log) key (s .commit) p → found key (covered s) ≡ p
+found-is : (s : Server) (key p : ℕ) → 1 ≤ p → s .head .commit ≤ lengthOf (s .log) → LastFor (seenServer s .log) key (s .head .commit) p → found key (covered s) ≡ p
 found-is s key p one within h =
     by-cases (decLe (found key es) p) (λ l. by-cases (decLe p (found key es)) (λ m. omega arith) (λ m. absurd (lower (omega arith)))) (λ l. absurd (higher (omega arith)))
   where
     es : List Entry
     es = covered s
 
-    long : length es ≡ s .commit
-    long = length-take-le (s .commit) (live (s .log)) within
+    long : length es ≡ s .head .commit
+    long = length-take-le (s .head .commit) (live (s .log)) within
 
     lower : found key es < p → ⊥
-    lower l = found-last key es p l (omega (arith, long, h .within)) (ap (λ (e : Entry). e .key) (entryAt-take (s .commit) p (live (s .log)) (h .within)) ∙ h .key)
+    lower l = found-last key es p l (omega (arith, long, h .within)) (ap (λ (e : Entry). e .key) (entryAt-take (s .head .commit) p (live (s .log)) (h .within)) ∙ h .key)
 
     higher : p < found key es → ⊥
     higher l =
-        let f : found key es ≤ s .commit = omega (arith, found-le key es, long) in
+        let f : found key es ≤ s .head .commit = omega (arith, found-le key es, long) in
         h .last (found key es) l f
-        (ap (λ (e : Entry). e .key) (sym (entryAt-take (s .commit) (found key es) (live (s .log)) f)) ∙ found-key key es (omega arith))
+        (ap (λ (e : Entry). e .key) (sym (entryAt-take (s .head .commit) (found key es) (live (s .log)) f)) ∙ found-key key es (omega arith))
 
 value-of : {d e : Entry} → d ≡ e → d .value ≡ e .value
 value-of q = ap (λ (e : Entry). e .value) q
@@ -94,7 +94,7 @@ answered c q key asked v t a = ⊎-elim is-done (λ d. refused (answers (d .is))
 -- ---- what is covered once
 
 module _ {n : ℕ} {some : 0 < n} {x y : Cluster} (X : Now n some x) (Y : Now n some y) (w : Walk (majorities n some) (view x) (view y))
-    (s k : ℕ) (hs : s < n) (one : 1 ≤ k) (cov : k ≤ serverAt x s .commit) where
+    (s k : ℕ) (hs : s < n) (one : 1 ≤ k) (cov : k ≤ serverAt x s .head .commit) where
   log-x : FitsLog (serverAt x s .log)
   log-x = X .fits .each s (omega (arith, X .few)) .log
 
@@ -125,7 +125,7 @@ module _ {n : ℕ} {some : 0 < n} {x y : Cluster} (X : Now n some x) (Y : Now n 
         from = S .from;
         covered = S .read .within;
         key = S .read .key;
-        value = value-of (sym (entryAt-take (t .commit) p (live (t .log)) (S .read .within))) ∙ sym (rw f at (latest-found (e .key) (covered t))) ∙ a .value;
+        value = value-of (sym (entryAt-take (t .head .commit) p (live (t .log)) (S .read .within))) ∙ sym (rw f at (latest-found (e .key) (covered t))) ∙ a .value;
         same = λ z. same-entry (entryOf y q p) e (fits-time (t .log) (log-y q hq) p) (fits-time (serverAt x s .log) log-x k) (S .same z);
         newer = λ l. stamp-before (e .time) (entryOf y q p .time) (fits-time (t .log) (log-y q hq) p) (S .newer l);
       }

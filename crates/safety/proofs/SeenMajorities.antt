@@ -56,7 +56,7 @@ module _ (a m t i : ℕ) (s : Server) where
   unfolding votedOf
   voted-in e = rw e (record { keeps = record { len = refl; log = refl }; commit = refl; term = refl })
 
-  voted-role : member m i ≡ true → votedOf a m t i s .primary ≡ true → i ≡ a
+  voted-role : member m i ≡ true → votedOf a m t i s .head .primary ≡ true → i ≡ a
   unfolding votedOf
   voted-role e p = eqb-true i a (rw e at p)
 
@@ -69,24 +69,24 @@ module _ (a m t i : ℕ) (s : Server) where
 backing : (s t : Server) (n : ℕ) → backs s n t ≡ true → Backs (seenServer s) n (seenServer t)
 unfolding backs
 backing s t n e =
-    let q = equal-at _ _ n (and-right (eqb (t .term) (s .term)) _ e) in
-    record { term = eqb-true (t .term) (s .term) (and-left _ _ e); within = q .left; entry = ap seenEntry (q .same) }
+    let q = equal-at _ _ n (and-right (eqb (t .head .term) (s .head .term)) _ e) in
+    record { term = eqb-true (t .head .term) (s .head .term) (and-left _ _ e); within = q .left; entry = ap seenEntry (q .same) }
 
 -- a position that passes, as facts
 record Passing (c : Cluster) (s : Server) (n : ℕ) : Type 0 where
   within : n ≤ lengthOf (s .log)
-  current : entryAt (live (s .log)) n .term ≡ s .term
+  current : entryAt (live (s .log)) n .term ≡ s .head .term
   enough : mostOf (serverCount c) (backers c s n) ≡ true
 
 passing : {c : Cluster} {s : Server} {n : ℕ} → passes c s n ≡ true → Passing c s n
 unfolding passes
 passing {c} {s} {n} e =
-    let r = and-right (ltb (s .commit) n) _ e in
+    let r = and-right (ltb (s .head .commit) n) _ e in
     let q = and-right (leb n (lengthOf (s .log))) _ r in
     record {
       within = leb-true n (lengthOf (s .log)) (and-left _ _ r);
-      current = eqb-true (entryAt (live (s .log)) n .term) (s .term) (and-left _ _ q);
-      enough = and-right (eqb (entryAt (live (s .log)) n .term) (s .term)) _ q;
+      current = eqb-true (entryAt (live (s .log)) n .term) (s .head .term) (and-left _ _ q);
+      enough = and-right (eqb (entryAt (live (s .log)) n .term) (s .head .term)) _ q;
     }
 
 -- ---- the steps
@@ -103,14 +103,14 @@ module _ {𝓠 : Quorums} (c : Cluster) (f : Fits c) (most : (P : ℕ → Type 0
           hold = λ i l e. e;
         });
         low = λ i e. leb-true _ _ (and-left _ _ (may i e));
-        ahead = λ i e. not-behind (serverAt c a) (serverAt c i) (and-right (leb (serverAt c i .term) (serverAt c a .term)) _ (may i e));
-        voted = λ i e. subst (λ (s : Server). Voted (view c i) (seenServer s) (suc (serverAt c a .term))) (sym (changed i e))
+        ahead = λ i e. not-behind (serverAt c a) (serverAt c i) (and-right (leb (serverAt c i .head .term) (serverAt c a .head .term)) _ (may i e));
+        voted = λ i e. subst (λ (s : Server). Voted (view c i) (seenServer s) (suc (serverAt c a .head .term))) (sym (changed i e))
             (rw risen (voted-in a m (newTerm c a) i (serverAt c i) e));
-        winner = λ i e p. voted-role a m (newTerm c a) i (serverAt c i) e (ap (λ (s : Server). s .primary) (sym (changed i e)) ∙ p);
+        winner = λ i e p. voted-role a m (newTerm c a) i (serverAt c i) e (ap (λ (s : Server). s .head .primary) (sym (changed i e)) ∙ p);
         others = λ i e. changed-view _ c i (voted-out a m _ i (serverAt c i) e);
       })
     where
-      risen : suc (serverAt c a .term) ≡ newTerm c a
+      risen : suc (serverAt c a .head .term) ≡ newTerm c a
       risen = omega arith
 
       below : (i : ℕ) → member m i ≡ true → i < serverCount c

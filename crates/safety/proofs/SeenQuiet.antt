@@ -12,13 +12,13 @@ use Rattle.log.proofs.Equal.{equal-at}
 use Rattle.cluster.specs.declared.Server.{Server}
 use Rattle.cluster.specs.declared.Cluster.{Cluster}
 use Rattle.cluster.specs.Ranges.{Fits}
-use Rattle.cluster.specs.Servers.{serverCount, serverAt, withServer, clockedOf}
+use Rattle.cluster.specs.Servers.{withWall, withHead, serverCount, serverAt, withServer, clockedOf}
 use Rattle.steps.specs.declared.Step.{Step}
 use Rattle.steps.specs.declared.Step.the-variants.{StepDown, Hears, WallClock, Restarts, LocalRead, MajorityRead, Acknowledged, ClocksAgree}
 use Rattle.steps.specs.Reasons.{Clear}
 use Rattle.pairs.specs.Hears.{takesCommit, heardOf}
-use Rattle.singles.specs.StepsDown.{downOf}
-use Rattle.singles.specs.WallClock.{tickedOf}
+use Rattle.singles.specs.StepsDown.{downDone}
+use Rattle.singles.specs.WallClock.{clockDone}
 use Rattle.singles.specs.Restarts.{restartedOf}
 use Rattle.wholes.specs.ClocksAgree.{greatestClock}
 use Rattle.rules.specs.Rules.{rowOf, rulesOf, doneOf}
@@ -38,7 +38,7 @@ clocked-seen : (n w i : ℕ) (s : Server) → seenServer (clockedOf n w i s) ≡
 unfolding clockedOf
 clocked-seen n w i s = go (ltb i n)
   where
-    go : (b : Bool) → seenServer (cond b (record { log = s .log; term = s .term; primary = s .primary; commit = s .commit; wall = w; time = s .time }) s) ≡ seenServer s
+    go : (b : Bool) → seenServer (cond b (withHead s (withWall (s .head) w)) s) ≡ seenServer s
     go true = refl
     go false = refl
 
@@ -50,17 +50,17 @@ heard-rests s t =
       keeps = record { len = refl; log = refl };
       raised = omega arith;
       role = λ p. and-left _ _ p;
-      unraised = λ p. omega (arith, ltb-false (s .term) (t .term) (not-true _ (and-right (s .primary) _ p)));
+      unraised = λ p. omega (arith, ltb-false (s .head .term) (t .head .term) (not-true _ (and-right (s .head .primary) _ p)));
     }
 
 -- b's commit point is taken only with an equal entry there
-heard-settles : (c : Cluster) (a b : ℕ) → Settles (view c) a (heardOf (serverAt c a) (serverAt c b) .commit)
+heard-settles : (c : Cluster) (a b : ℕ) → Settles (view c) a (heardOf (serverAt c a) (serverAt c b) .head .commit)
 unfolding heardOf takesCommit
 heard-settles c a b = go (takesCommit (serverAt c a) (serverAt c b)) refl
   where
-    go : (x : Bool) → takesCommit (serverAt c a) (serverAt c b) ≡ x → Settles (view c) a (cond x (serverAt c b .commit) (serverAt c a .commit))
+    go : (x : Bool) → takesCommit (serverAt c a) (serverAt c b) ≡ x → Settles (view c) a (cond x (serverAt c b .head .commit) (serverAt c a .head .commit))
     go true e =
-        let q = equal-at _ _ (serverAt c b .commit) (and-right (ltb (serverAt c a .commit) (serverAt c b .commit)) _ e) in
+        let q = equal-at _ _ (serverAt c b .head .commit) (and-right (ltb (serverAt c a .head .commit) (serverAt c b .head .commit)) _ e) in
         hears b refl (q .left) (ap seenEntry (q .same))
     go false e = stays refl
 
@@ -69,13 +69,13 @@ lowered : (r : ServerSeen) (k : ℕ) → Rests r (record { len = r .len; log = r
 lowered r k = record { keeps = record { len = refl; log = refl }; raised = omega arith; role = λ p. not-both false p refl; unraised = λ p. refl }
 
 module _ {𝓠 : Quorums} (c : Cluster) (f : Fits c) where
-  quietly : (a : ℕ) → ltb a (serverCount c) ≡ true → (s : Server) → Rests (view c a) (seenServer s) → Settles (view c) a (s .commit)
+  quietly : (a : ℕ) → ltb a (serverCount c) ≡ true → (s : Server) → Rests (view c a) (seenServer s) → Settles (view c) a (s .head .commit)
       → Goes 𝓠 (view c) (view (withServer c a s))
   quietly a l s r t = alone (others c f a l s) (rw (here c f a l s) (record { rests = r; settles = t }))
 
   pub sees-down : (a : ℕ) → Sees 𝓠 c (StepDown a)
   unfolding rowOf
-  sees-down a h = quietly a (h .0) (downOf (serverAt c a)) (lowered (view c a) (view c a .commit)) (stays refl)
+  sees-down a h = quietly a (h .0) (downDone (serverAt c a) .server) (lowered (view c a) (view c a .commit)) (stays refl)
 
   pub sees-restart : (a : ℕ) → Sees 𝓠 c (Restarts a)
   unfolding rowOf
@@ -88,7 +88,7 @@ module _ {𝓠 : Quorums} (c : Cluster) (f : Fits c) where
 
   pub sees-clock : (a : ℕ) → Sees 𝓠 c (WallClock a)
   unfolding rowOf
-  sees-clock a h = not-shown c f a (h .0) (tickedOf (serverAt c a)) refl
+  sees-clock a h = not-shown c f a (h .0) (clockDone (serverAt c a) .server) refl
 
   pub sees-local : (a key : ℕ) (asked : Time) → Sees 𝓠 c (LocalRead a key asked)
   unfolding rowOf

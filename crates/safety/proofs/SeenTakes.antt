@@ -41,7 +41,7 @@ tidy-at : (c : Cluster) → Good c → (a : ℕ) → ltb a (serverCount c) ≡ t
 tidy-at c g a l = g .counted a (omega (arith, ltb-true a (serverCount c) l)) .log .tidy
 
 -- a takes a log that looks like b's
-took : {𝓠 : Quorums} (c : Cluster) → Fits c → (a b : ℕ) → ltb a (serverCount c) ≡ true → serverAt c a .primary ≡ false → (g : Log)
+took : {𝓠 : Quorums} (c : Cluster) → Fits c → (a b : ℕ) → ltb a (serverCount c) ≡ true → serverAt c a .head .primary ≡ false → (g : Log)
     → Copies (view c a) (view c b) → lengthOf g ≡ view c b .len → Agree (view c b .len) (λ n. seenEntry (entryAt (live g) n)) (view c b .log)
     → Goes 𝓠 (view c) (view (withServer c a (tookOf (serverAt c a) (serverAt c b) g)))
 unfolding tookOf
@@ -79,7 +79,7 @@ sees-roll c f a b h =
     let t = serverAt c b in
     let r = h .1 .1 .1 in
     let e = rolled-is (s .log) (t .log) in
-    took c f a b (h .0) (not-true (s .primary) (r .0)) (joined (s .log) (t .log) (common s t))
+    took c f a b (h .0) (not-true (s .head .primary) (r .0)) (joined (s .log) (t .log) (common s t))
     (rollsBack (ltb-true _ _ (r .1 .1 .0))) (ap (λ (g : Log). lengthOf g) e)
     (λ n l. ap (λ (g : Log). seenEntry (entryAt (live g) n)) e)
 
@@ -97,7 +97,7 @@ module _ {𝓠 : Quorums} {u : Seen} (c : Cluster) (f : Fits c) (g : Good c) (st
       let y = tidy-at c g b (h .1 .0) in
       let e = live-joined x y k (omega (arith, tidy-length x)) (omega (arith, tidy-length y)) in
       let may : Copies (view c a) (view c b) = pulls (omega arith) last in
-      took c f a b (h .0) (not-true (s .primary) (r .0)) (joined (s .log) (t .log) k) may
+      took c f a b (h .0) (not-true (s .head .primary) (r .0)) (joined (s .log) (t .log) k) may
       (ap length e ∙ length-joined k (live (s .log)) (live (t .log)) (omega arith) (omega arith))
       (pulled start w a b (omega arith) last
       (λ n l. ap seenEntry (rw e (entryAt-joined-low k (live (s .log)) (live (t .log)) (omega arith) n l)))
@@ -106,7 +106,7 @@ module _ {𝓠 : Quorums} {u : Seen} (c : Cluster) (f : Fits c) (g : Good c) (st
   -- the common beginning covers a's commit point, wherever the rules before the last one are kept
   common-covers : (a b : ℕ) → ltb a (serverCount c) ≡ true → ltb b (serverCount c) ≡ true
       → ltb (lastTerm (live (serverAt c a .log))) (lastTerm (live (serverAt c b .log))) ≡ true
-      → serverAt c a .commit ≤ common (serverAt c a) (serverAt c b)
+      → serverAt c a .head .commit ≤ common (serverAt c a) (serverAt c b)
   common-covers a b la lb h =
       let s = serverAt c a in
       let t = serverAt c b in
@@ -116,4 +116,4 @@ module _ {𝓠 : Quorums} {u : Seen} (c : Cluster) (f : Fits c) (g : Good c) (st
 
   pub roll-not-9 : (a b : ℕ) → Broken (bothInRange c a b (rollRules (serverAt c a) (serverAt c b))) BelowCommitPoint → ⊥
   roll-not-9 a b (later la (later lb (later ab (later secondary (later some (later low (later other (broken-here e)))))))) =
-      omega (arith, common-covers a b la lb low, leb-false (serverAt c a .commit) (common (serverAt c a) (serverAt c b)) e)
+      omega (arith, common-covers a b la lb low, leb-false (serverAt c a .head .commit) (common (serverAt c a) (serverAt c b)) e)

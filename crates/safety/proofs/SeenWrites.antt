@@ -38,17 +38,17 @@ ticked-to (To t) h = refl
 ticked-to AtLimit h = not-both false h refl
 
 -- the tick is past the cluster time, which is not before the applied time
-later-tick : (s : Server) → FitsServer s → ServerGood s → ticks (tickOf (s .wall) (s .time)) ≡ true
-    → stamp (appliedTime (live (s .log))) < stamp (tickTime (tickOf (s .wall) (s .time)))
+later-tick : (s : Server) → FitsServer s → ServerGood s → ticks (tickOf (s .head .wall) (s .head .time)) ≡ true
+    → stamp (appliedTime (live (s .log))) < stamp (tickTime (tickOf (s .head .wall) (s .head .time)))
 later-tick s f g h =
     before-stamp _ _ (fits-time (s .log) (f .log) (lengthOf (s .log)))
-    (then-before _ (s .time) _ (g .last-time) (tick-after (s .wall) (s .time) _ (ticked-to _ h)))
+    (then-before _ (s .head .time) _ (g .last-time) (tick-after (s .head .wall) (s .head .time) _ (ticked-to _ h)))
 
 pub sees-write : {𝓠 : Quorums} (c : Cluster) → Fits c → Good c → (a key value : ℕ) → Sees 𝓠 c (Writes a key value)
 unfolding rowOf wroteOf
 sees-write c f g a key value h =
     let s = serverAt c a in
-    let t = tickTime (tickOf (s .wall) (s .time)) in
+    let t = tickTime (tickOf (s .head .wall) (s .head .time)) in
     let e = newEntry s key value t in
     let r = h .1 .1 .1 in
     let k = g .counted a (omega (arith, ltb-true a (serverCount c) (h .0))) in

@@ -18,9 +18,9 @@ seenServer s =
     record {
       len = lengthOf (s .log);
       log = λ n. seenEntry (entryAt (live (s .log)) n);
-      term = s .term;
-      primary = s .primary;
-      commit = s .commit;
+      term = s .head .term;
+      primary = s .head .primary;
+      commit = s .head .commit;
     }
 
 abbrev pub view : Cluster → Seen

@@ -15,11 +15,11 @@ use Rattle.singles.specs.LocalRead.{readRules}
 
 -- the time of the entry at the commit point, (0,0) if that is 0
 abbrev pub commitTime : Server → Time
-commitTime s = entryAt (live (s .log)) (s .commit) .time
+commitTime s = entryAt (live (s .log)) (s .head .commit) .time
 
 -- the first commit-point entries
 abbrev pub covered : Server → List Entry
-covered s = take (s .commit) (live (s .log))
+covered s = take (s .head .commit) (live (s .log))
 
 -- the value of the last entry for the key in the first commit-point entries, with the commit time
 abbrev pub majorityRules : Server → ℕ → Time → Rules

@@ -3,7 +3,9 @@ use mathlib.Core.List.{[], _∷_}
 use Prim.Native.Nat.{_+_}
 use lib.Dec.{ltb}
 use Rattle.clock.specs.Times.{limit}
+use Rattle.cluster.specs.declared.Head.{Head}
 use Rattle.cluster.specs.declared.Server.{Server}
+use Rattle.cluster.specs.Servers.{withWall, withHead}
 use Rattle.steps.specs.declared.Stepped.{Stepped}
 use Rattle.steps.specs.declared.Answer.the-variants.{Done}
 use Rattle.steps.specs.declared.Refusal.the-variants.{AtLimit}
@@ -11,14 +13,11 @@ use Rattle.steps.specs.Refusals.{Rules, decided}
 use Rattle.steps.specs.Answers.{refusing}
 
 -- a wall clock below 65,535 grows by 1
-abbrev pub clockRules : Server → Rules
-clockRules s = (ltb (s .wall) limit, AtLimit) ∷ []
-
-abbrev pub tickedOf : Server → Server
-tickedOf s = record { log = s .log; term = s .term; primary = s .primary; commit = s .commit; wall = s .wall + 1; time = s .time }
+abbrev pub clockRules : Head → Rules
+clockRules h = (ltb (h .wall) limit, AtLimit) ∷ []
 
 abbrev pub clockDone : Server → Stepped
-clockDone s = record { server = tickedOf s; answer = Done }
+clockDone s = record { server = withHead s (withWall (s .head) (s .head .wall + 1)); answer = Done }
 
 abbrev pub wallClockOf : Server → Stepped
-wallClockOf s = decided (refusing s) (clockDone s) (clockRules s)
+wallClockOf s = decided (refusing s) (clockDone s) (clockRules (s .head))

@@ -11,6 +11,7 @@ use Rattle.log.specs.declared.Entry.{Entry}
 use Rattle.log.specs.Logs.{logLimit, lengthOf, appended}
 use Rattle.log.specs.Order.{highestKey}
 use Rattle.cluster.specs.declared.Server.{Server}
+use Rattle.cluster.specs.Servers.{withTime, withHead, withLog}
 use Rattle.steps.specs.declared.Stepped.{Stepped}
 use Rattle.steps.specs.declared.Answer.the-variants as A
 use Rattle.steps.specs.declared.Refusal.the-variants as R
@@ -31,33 +32,25 @@ abbrev pub writeRules : Server → ℕ → ℕ → Rules
 writeRules s key value =
     (leb key highestKey, R.OutOfRange)
     ∷ (leb 1 value, R.OutOfRange)
-    ∷ (s .primary, R.WrongRole)
+    ∷ (s .head .primary, R.WrongRole)
     ∷ (ltb (lengthOf (s .log)) logLimit, R.LogFull)
-    ∷ (ticks (tickOf (s .wall) (s .time)), R.AtLimit)
+    ∷ (ticks (tickOf (s .head .wall) (s .head .time)), R.AtLimit)
     ∷ []
 
 -- one entry with a's term and the new cluster time t
 abbrev pub newEntry : Server → ℕ → ℕ → Time → Entry
-newEntry s key value t = record { term = s .term; key = key; value = value; time = t }
+newEntry s key value t = record { term = s .head .term; key = key; value = value; time = t }
 
 unfoldable pub wroteOf : Server → ℕ → ℕ → Time → Server
-wroteOf s key value t =
-    record {
-      log = appended (s .log) (newEntry s key value t);
-      term = s .term;
-      primary = s .primary;
-      commit = s .commit;
-      wall = s .wall;
-      time = t;
-    }
+wroteOf s key value t = withLog (withHead s (withTime (s .head) t)) (appended (s .log) (newEntry s key value t))
 
 -- the answer is the entry's position, term and time
 abbrev pub writtenOf : Server → ℕ → ℕ → Time → Stepped
 writtenOf s key value t =
-    record { server = wroteOf s key value t; answer = A.Entry (lengthOf (appended (s .log) (newEntry s key value t))) (s .term) t }
+    record { server = wroteOf s key value t; answer = A.Entry (lengthOf (appended (s .log) (newEntry s key value t))) (s .head .term) t }
 
 abbrev pub writeDone : Server → ℕ → ℕ → Stepped
-writeDone s key value = writtenOf s key value (tickTime (tickOf (s .wall) (s .time)))
+writeDone s key value = writtenOf s key value (tickTime (tickOf (s .head .wall) (s .head .time)))
 
 abbrev pub writesOf : Server → ℕ → ℕ → Stepped
 writesOf s key value = decided (refusing s) (writeDone s key value) (writeRules s key value)

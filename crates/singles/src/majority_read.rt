@@ -14,7 +14,7 @@ pub fn majority_read(s: Server, key: u8, asked: Time) -> Stepped
         return steps::refuse(s, Refusal::OutOfRange);
     }
     let g = s.log;
-    let n = s.commit;
+    let n = s.head.commit;
     let reached = log::time_at(g, n);
     if clock::is_before(reached, asked) {
         return steps::refuse(s, Refusal::NotYet);

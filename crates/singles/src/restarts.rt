@@ -1,6 +1,7 @@
 // Kind 9: a restarts.
 ghost use mathlib.Core.Path.{_≡_};
 ghost use Rattle.singles.specs.Restarts.{restartsOf};
+use cluster::Head;
 use cluster::Server;
 use steps::Answer;
 use steps::Stepped;
@@ -8,13 +9,17 @@ use steps::Stepped;
 pub fn restarts(s: Server) -> Stepped
     ensures { λ r. ⌜ r ≡ restartsOf s ⌝ }
 {
+    let h = s.head;
     let g = s.log;
     let time = log::applied_time(g);
     Stepped {
         server: Server {
-            primary: false,
-            commit: 0,
-            time: time,
+            head: Head {
+                primary: false,
+                commit: 0,
+                time: time,
+                ..h
+            },
             ..s
         },
         answer: Answer::Done,

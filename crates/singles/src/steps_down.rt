@@ -1,6 +1,7 @@
 // Kind 2: a steps down.
 ghost use mathlib.Core.Path.{_≡_};
 ghost use Rattle.singles.specs.StepsDown.{stepsDownOf};
+use cluster::Head;
 use cluster::Server;
 use steps::Answer;
 use steps::Refusal;
@@ -9,12 +10,16 @@ use steps::Stepped;
 pub fn steps_down(s: Server) -> Stepped
     ensures { λ r. ⌜ r ≡ stepsDownOf s ⌝ }
 {
-    if !s.primary {
+    if !s.head.primary {
         return steps::refuse(s, Refusal::WrongRole);
     }
+    let h = s.head;
     Stepped {
         server: Server {
-            primary: false,
+            head: Head {
+                primary: false,
+                ..h
+            },
             ..s
         },
         answer: Answer::Done,

@@ -1,6 +1,7 @@
 // Kind 8: a's wall clock.
 ghost use mathlib.Core.Path.{_≡_};
 ghost use Rattle.singles.specs.WallClock.{wallClockOf};
+use cluster::Head;
 use cluster::Server;
 use steps::Answer;
 use steps::Refusal;
@@ -9,12 +10,16 @@ use steps::Stepped;
 pub fn wall_clock(s: Server) -> Stepped
     ensures { λ r. ⌜ r ≡ wallClockOf s ⌝ }
 {
-    if clock::LIMIT <= s.wall {
+    if clock::LIMIT <= s.head.wall {
         return steps::refuse(s, Refusal::AtLimit);
     }
+    let h = s.head;
     Stepped {
         server: Server {
-            wall: s.wall + 1,
+            head: Head {
+                wall: h.wall + 1,
+                ..h
+            },
             ..s
         },
         answer: Answer::Done,

@@ -3,6 +3,7 @@ ghost use mathlib.Core.Path.{_≡_};
 ghost use Rattle.singles.specs.Writes.{writtenOf, writesOf};
 use clock::Ticked;
 use clock::Time;
+use cluster::Head;
 use cluster::Server;
 use log::Entry;
 use steps::Answer;
@@ -13,21 +14,22 @@ use steps::Stepped;
 pub fn written(s: Server, key: u8, value: u16, time: Time) -> Stepped
     ensures { λ r. ⌜ r ≡ writtenOf s key value time ⌝ }
 {
+    let h = s.head;
     let g = s.log;
     let e = Entry {
-        term: s.term,
+        term: h.term,
         key: key,
         value: value,
         time: time,
     };
-    let h = log::append(g, e);
+    let more = log::append(g, e);
     Stepped {
         server: Server {
-            log: h,
-            time: time,
+            head: Head { time: time, ..h },
+            log: more,
             ..s
         },
-        answer: Answer::Entry(log::length_of(h), s.term, time),
+        answer: Answer::Entry(log::length_of(more), h.term, time),
     }
 }
 
@@ -40,15 +42,15 @@ pub fn writes(s: Server, key: u8, value: u16) -> Stepped
     if value < 1 {
         return steps::refuse(s, Refusal::OutOfRange);
     }
-    if !s.primary {
+    if !s.head.primary {
         return steps::refuse(s, Refusal::WrongRole);
     }
     let g = s.log;
     if log::LOG_LIMIT <= log::length_of(g) {
         return steps::refuse(s, Refusal::LogFull);
     }
-    let from = s.time;
-    let Ticked::To(time) = clock::tick(s.wall, from) else {
+    let from = s.head.time;
+    let Ticked::To(time) = clock::tick(s.head.wall, from) else {
         return steps::refuse(s, Refusal::AtLimit);
     };
     written(s, key, value, time)

@@ -6,9 +6,9 @@ use crate::numbers::word;
 use crate::say;
 use clock::Time;
 use cluster::Cluster;
+use cluster::Head;
 use cluster::Server;
 use log::Entry;
-use log::Log;
 
 // How many numbers there are in a line `fresh`, `server` and `entry`.
 const FRESH: usize = 1;
@@ -43,17 +43,20 @@ fn time(p: usize, l: usize) -> Time {
     }
 }
 
-// The server with the numbers of a line `server` and the slots of this log.
-fn with_numbers(g: Log, n: [usize; PLACES]) -> Server {
-    let mut h = g;
-    h.len = n[2];
+// The server with the numbers of a line `server` and the slots that it has.
+fn with_numbers(s: Server, n: [usize; PLACES]) -> Server {
+    let mut g = s.log;
+    g.len = n[2];
     Server {
-        log: h,
-        term: word(n[3]),
-        primary: n[4] != 0,
-        commit: n[5],
-        wall: word(n[6]),
-        time: time(n[7], n[8]),
+        head: Head {
+            term: word(n[3]),
+            primary: n[4] != 0,
+            commit: n[5],
+            wall: word(n[6]),
+            time: time(n[7], n[8]),
+        },
+        log: g,
+        ..s
     }
 }
 
@@ -87,8 +90,7 @@ fn with_entry(s: Server, line: &[u8], n: [usize; PLACES]) -> Server {
 // The server after a line that changes it.
 fn with_line(s: Server, line: &[u8], n: [usize; PLACES]) -> Server {
     if n[0] == SERVER {
-        let g = s.log;
-        with_numbers(g, n)
+        with_numbers(s, n)
     } else {
         with_entry(s, line, n)
     }

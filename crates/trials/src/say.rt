@@ -60,12 +60,12 @@ pub(crate) fn numbers_of(i: usize, s: Server) -> [usize; PLACES] {
         SERVER,
         i,
         s.log.len,
-        s.term as usize,
-        if s.primary { 1 } else { 0 },
-        s.commit,
-        s.wall as usize,
-        s.time.p as usize,
-        s.time.l as usize,
+        s.head.term as usize,
+        if s.head.primary { 1 } else { 0 },
+        s.head.commit,
+        s.head.wall as usize,
+        s.head.time.p as usize,
+        s.head.time.l as usize,
     ]
 }
 

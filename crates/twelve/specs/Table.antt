@@ -12,10 +12,10 @@ use Rattle.clock.specs.Times.{isBefore, sameTime, tickOf}
 use Rattle.log.specs.declared.Entry.{Entry}
 use Rattle.log.specs.declared.Log.{Log}
 use Rattle.log.specs.Entries.{zeroEntry, lastTerm, appliedTime, commonBeginning}
-use Rattle.log.specs.Logs.{logLimit, emptyLog, live}
+use Rattle.log.specs.Logs.{logLimit, live}
 use Rattle.cluster.specs.declared.Server.{Server}
 use Rattle.cluster.specs.declared.Cluster.{Cluster}
-use Rattle.cluster.specs.Servers.{mostServers, zeroServer, serverAt}
+use Rattle.cluster.specs.Servers.{mostServers, withHead, withLog, zeroServer, freshServer, serverAt}
 use Rattle.cluster.specs.Sets.{isMajority}
 use Rattle.steps.specs.Refusals.{Rules, decided, refusalNumber}
 use Rattle.pairs.specs.Pulls.{pullRules}
@@ -68,14 +68,15 @@ logOf ts = record { entries = entriesFrom 1 ts ++ replicate (logLimit - length t
 -- a server of this term, role and log, that has committed nothing
 abbrev pub serverOf : ℕ → Bool → Terms → Server
 serverOf term primary ts =
-    record { log = logOf ts; term = term; primary = primary; commit = 0; wall = 1; time = appliedTime (live (logOf ts)) }
+    withLog
+    (withHead freshServer (record { term = term; primary = primary; commit = 0; wall = 1; time = appliedTime (live (logOf ts)) })) (logOf ts)
 
 -- a secondary that has seen no term past its log's
 abbrev pub secondaryOf : Terms → Server
 secondaryOf ts = serverOf (lastTerm (live (logOf ts))) false ts
 
 abbrev pub writerOf : Time → ℕ → Server
-writerOf t wall = record { log = emptyLog; term = 1; primary = true; commit = 0; wall = wall; time = t }
+writerOf t wall = withHead freshServer (record { term = 1; primary = true; commit = 0; wall = wall; time = t })
 
 -- the servers of a cluster, and zero past the count
 abbrev pub clusterOf : List Server → Cluster

@@ -8,7 +8,7 @@ use Rattle.steps.specs.declared.Answer.the-variants.{Done}
 
 -- every counted server's wall clock is the greatest of them
 abbrev pub greatestClock : Cluster → ℕ
-greatestClock c = greatest (serverCount c) (λ i. serverAt c i .wall)
+greatestClock c = greatest (serverCount c) (λ i. serverAt c i .head .wall)
 
 abbrev pub agreesOf : Cluster → Outcome
 agreesOf c = record { cluster = clocksSet c (greatestClock c); answer = Done }

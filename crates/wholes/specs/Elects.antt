@@ -25,7 +25,7 @@ notBehind s t =
 
 -- t may be a member where s is elected: its term is not above s's, and s is not behind it
 unfoldable pub mayVote : Server → Server → Bool
-mayVote s t = leb (t .term) (s .term) && notBehind s t
+mayVote s t = leb (t .head .term) (s .head .term) && notBehind s t
 
 -- server i may vote for s, if it is a member of the set m
 abbrev pub voteOk : Server → Server → ℕ → ℕ → Bool
@@ -43,12 +43,12 @@ electRules c a m =
     ∷ (isMajority m (serverCount c), ConditionUnmet)
     ∷ (member m a, ConditionUnmet)
     ∷ (allMayVote c (serverAt c a) m, ConditionUnmet)
-    ∷ (ltb (serverAt c a .term) limit, AtLimit)
+    ∷ (ltb (serverAt c a .head .term) limit, AtLimit)
     ∷ []
 
 -- a's old term + 1
 abbrev pub newTerm : Cluster → ℕ → ℕ
-newTerm c a = serverAt c a .term + 1
+newTerm c a = serverAt c a .head .term + 1
 
 -- every member has the new term; a primary, other members secondary
 abbrev pub electDone : Cluster → ℕ → ℕ → Outcome

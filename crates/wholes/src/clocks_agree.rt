@@ -14,8 +14,8 @@ pub fn greatest_clock(c: Cluster) -> u16
     let mut i = 0;
     while i < size {
         let s = c.servers[i];
-        if most < s.wall {
-            most = s.wall;
+        if most < s.head.wall {
+            most = s.head.wall;
         }
         i += 1;
     }

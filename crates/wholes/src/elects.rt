@@ -28,7 +28,7 @@ pub fn not_behind(s: Server, t: Server) -> bool
 pub fn may_vote(s: Server, t: Server) -> bool
     ensures { λ r. ⌜ r ≡ mayVote s t ⌝ }
 {
-    if s.term < t.term {
+    if s.head.term < t.head.term {
         return false;
     }
     not_behind(s, t)
@@ -80,10 +80,10 @@ pub fn elects(c: Cluster, a: usize, set: u8) -> Outcome
     if !all_may_vote(c, s, set) {
         return steps::refuse_all(c, Refusal::ConditionUnmet);
     }
-    if clock::LIMIT <= s.term {
+    if clock::LIMIT <= s.head.term {
         return steps::refuse_all(c, Refusal::AtLimit);
     }
-    let term = s.term + 1;
+    let term = s.head.term + 1;
     Outcome {
         cluster: cluster::elect_all(c, a, set, term),
         answer: Answer::Elected(term),

@@ -12,9 +12,9 @@ use Rattle.cluster.proofs.numbers_ok.Statement.{statement}
 use Rattle.cluster.proofs.numbers_ok.Tie as tie
 
 -- what is left to test at a primary
-at-primary : (s : Server) → s .commit ≤ s .log .len → 1 ≤ s .wall → s .primary ≡ true → leb 1 (s .term) ≡ numbersOk s
+at-primary : (s : Server) → s .head .commit ≤ s .log .len → 1 ≤ s .head .wall → s .head .primary ≡ true → leb 1 (s .head .term) ≡ numbersOk s
 unfolding numbersOk
-at-primary s h k p = rw (le-leb (s .commit) (s .log .len) h, le-leb 1 (s .wall) k, p)
+at-primary s h k p = rw (le-leb (s .head .commit) (s .log .len) h, le-leb 1 (s .head .wall) k, p)
 
 returns : tie.Need-returns
 unfolding numbersOk

@@ -10,7 +10,7 @@ is-member-requires c κs = search needs
 
 returns : tie.Need-returns
 unfolding votedOf
-returns c = let b = c .before .before in simp (sym (b .before .is-member .ensures) ∙ b .if1 .taken)
+returns c = let b = c .before .before .before in simp (sym (b .before .is-member .ensures) ∙ b .if1 .taken)
 
 returns-2 : tie.Need-returns-2
 unfolding votedOf

@@ -20,8 +20,8 @@ use Rattle.counts.proofs.advances.advances.Tie as tie
 in-range : (c : tie.Else1) → ltb (c .before .before .args .a) (serverCount (c .before .before .args .t1)) ≡ true
 in-range c = lt-ltb (c .before .before .args .a) (serverCount (c .before .before .args .t1)) (omega (arith, c .before .server-count .ensures))
 
-primary : (c : tie.Else2) → serverAt (c .before .before .before .before .before .args .t1) (c .before .before .before .before .before .args .a) .primary ≡ true
-primary c = not-false (serverAt (c .before .before .before .before .before .args .t1) (c .before .before .before .before .before .args .a) .primary) (c .if2 .left)
+primary : (c : tie.Else2) → serverAt (c .before .before .before .before .before .args .t1) (c .before .before .before .before .before .args .a) .head .primary ≡ true
+primary c = not-false (serverAt (c .before .before .before .before .before .args .t1) (c .before .before .before .before .before .args .a) .head .primary) (c .if2 .left)
 
 found : (c : tie.Else3) → leb 1 (highestPassing (c .before .before .before .before .before .before .before .args .t1) (serverAt (c .before .before .before .before .before .before .before .args .t1) (c .before .before .before .before .before .before .before .args .a))) ≡ true
 found c = le-leb 1 (highestPassing (c .before .before .before .before .before .before .before .args .t1) (serverAt (c .before .before .before .before .before .before .before .args .t1) (c .before .before .before .before .before .before .before .args .a))) (omega (arith, c .before .highest-passing .ensures))
@@ -51,7 +51,7 @@ returns-2 : tie.Need-returns-2
 returns-2 c =
     let b = c .before .before .before .before .before .before .args in
     c .refuse-all2 .ensures ∙ sym (decided-broken (refusingAll (b .t1)) (advanceDone (b .t1) (b .a)) {rs = advanceRules (b .t1) (b .a)}
-    (later (in-range (c .before .before .before .before)) (here (not-true (serverAt (b .t1) (b .a) .primary) (c .before .if2 .taken)))))
+    (later (in-range (c .before .before .before .before)) (here (not-true (serverAt (b .t1) (b .a) .head .primary) (c .before .if2 .taken)))))
 
 highest-passing-requires : tie.Need-highest-passing-requires
 highest-passing-requires c κs = search needs
@@ -71,11 +71,11 @@ with-server-requires c κs = search needs
 
 returns-4 : tie.Need-returns-4
 returns-4 c =
-    let b = c .before .before .before .before .before .before .before .before .before .before .args in
-    let e = c .before .before .before .before .highest-passing .ensures in
+    let b = c .before .before .before .before .before .before .before .before .before .before .before .args in
+    let e = c .before .before .before .before .before .highest-passing .ensures in
     let w = c .with-server .ensures ∙ ap (λ (n : ℕ). withServer (b .t1) (b .a) (committedOf (serverAt (b .t1) (b .a)) n)) e in
-    let o : _≡_ {A = Outcome} (record { cluster = c .with-server .result; answer = Reached (c .before .before .before .before .highest-passing .result) }) (advanceDone (b .t1) (b .a)) = λ i. record { cluster = w i; answer = Reached (e i) } in
-    o ∙ sym (decided-clear (refusingAll (b .t1)) (advanceDone (b .t1) (b .a)) (advanceRules (b .t1) (b .a)) (in-range (c .before .before .before .before .before .before .before .before), (primary (c .before .before .before .before .before), (found (c .before .before .before), tt))))
+    let o : _≡_ {A = Outcome} (record { cluster = c .with-server .result; answer = Reached (c .before .before .before .before .before .highest-passing .result) }) (advanceDone (b .t1) (b .a)) = λ i. record { cluster = w i; answer = Reached (e i) } in
+    o ∙ sym (decided-clear (refusingAll (b .t1)) (advanceDone (b .t1) (b .a)) (advanceRules (b .t1) (b .a)) (in-range (c .before .before .before .before .before .before .before .before .before), (primary (c .before .before .before .before .before .before), (found (c .before .before .before .before), tt))))
 
 pub advances-spec : {M : Type 1} → statement M
 advances-spec =

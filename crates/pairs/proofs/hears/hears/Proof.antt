@@ -8,7 +8,7 @@ use Rattle.pairs.proofs.hears.hears.Statement.{statement}
 use Rattle.pairs.proofs.hears.hears.Tie as tie
 
 -- the commit point after the branch is what the rule gives
-commit-is : (c : tie.Joined1) → c .if1 .commit ≡ cond (takesCommit (c .before .before .before .before .before .before .before .args .s) (c .before .before .before .before .before .before .before .args .t)) (c .before .before .before .before .before .before .before .args .t .commit) (c .before .before .before .before .before .before .before .args .s .commit)
+commit-is : (c : tie.Joined1) → c .if1 .commit ≡ cond (takesCommit (c .before .before .before .before .before .before .before .before .args .s) (c .before .before .before .before .before .before .before .before .args .t)) (c .before .before .before .before .before .before .before .before .args .t .head .commit) (c .before .before .before .before .before .before .before .before .args .s .head .commit)
 commit-is c =
     ⊎-elim (λ w. w .1 ∙ sym (rw (sym (c .before .takes-commit .ensures) ∙ w .0 .taken)))
     (λ w. w .1 ∙ sym (rw (sym (c .before .takes-commit .ensures) ∙ w .0 .left))) (c .if1 .came)

@@ -12,7 +12,7 @@ use Rattle.pairs.proofs.pulls.pulls.Statement.{statement}
 use Rattle.pairs.proofs.pulls.pulls.Tie as tie
 
 -- what has passed at each place
-secondary : (c : tie.Else1) → not (c .before .before .before .args .s .primary) ≡ true
+secondary : (c : tie.Else1) → not (c .before .before .before .args .s .head .primary) ≡ true
 secondary c = ap not (c .if1 .left)
 
 shorter : (c : tie.Else2) → ltb (lengthOf (c .before .before .before .before .before .before .args .s .log)) (lengthOf (c .before .before .before .before .before .before .args .t .log)) ≡ true

@@ -12,7 +12,7 @@ use Rattle.pairs.proofs.rolls_back.rolls_back.Statement.{statement}
 use Rattle.pairs.proofs.rolls_back.rolls_back.Tie as tie
 
 -- what has passed at each place
-secondary : (c : tie.Else1) → not (c .before .before .before .args .s .primary) ≡ true
+secondary : (c : tie.Else1) → not (c .before .before .before .args .s .head .primary) ≡ true
 secondary c = ap not (c .if1 .left)
 
 filled : (c : tie.Else2) → leb 1 (lengthOf (c .before .before .before .before .before .args .s .log)) ≡ true
@@ -26,8 +26,8 @@ below c =
 parted : (c : tie.Else4) → not (isBeginning (live (c .before .before .before .before .before .before .before .before .before .before .args .s .log)) (live (c .before .before .before .before .before .before .before .before .before .before .args .t .log))) ≡ true
 parted c = ap not (sym (c .before .is-beginning .ensures) ∙ c .if4 .left)
 
-covered : (c : tie.Else5) → leb (c .before .before .before .before .before .before .before .before .before .before .before .before .before .args .s .commit) (common (c .before .before .before .before .before .before .before .before .before .before .before .before .before .args .s) (c .before .before .before .before .before .before .before .before .before .before .before .before .before .args .t)) ≡ true
-covered c = le-leb (c .before .before .before .before .before .before .before .before .before .before .before .before .before .args .s .commit) (common (c .before .before .before .before .before .before .before .before .before .before .before .before .before .args .s) (c .before .before .before .before .before .before .before .before .before .before .before .before .before .args .t)) (omega (arith, c .before .before .common-beginning .ensures))
+covered : (c : tie.Else5) → leb (c .before .before .before .before .before .before .before .before .before .before .before .before .before .args .s .head .commit) (common (c .before .before .before .before .before .before .before .before .before .before .before .before .before .args .s) (c .before .before .before .before .before .before .before .before .before .before .before .before .before .args .t)) ≡ true
+covered c = le-leb (c .before .before .before .before .before .before .before .before .before .before .before .before .before .args .s .head .commit) (common (c .before .before .before .before .before .before .before .before .before .before .before .before .before .args .s) (c .before .before .before .before .before .before .before .before .before .before .before .before .before .args .t)) (omega (arith, c .before .before .common-beginning .ensures))
 
 log-is : (c : tie.After-join) → c .join .result ≡ joined (c .before .before .before .before .before .before .before .before .before .before .before .before .before .before .args .s .log) (c .before .before .before .before .before .before .before .before .before .before .before .before .before .before .args .t .log) (common (c .before .before .before .before .before .before .before .before .before .before .before .before .before .before .args .s) (c .before .before .before .before .before .before .before .before .before .before .before .before .before .before .args .t))
 log-is c = c .join .ensures ∙ ap (joined (c .before .before .before .before .before .before .before .before .before .before .before .before .before .before .args .s .log) (c .before .before .before .before .before .before .before .before .before .before .before .before .before .before .args .t .log)) (c .before .before .before .common-beginning .ensures)
@@ -82,7 +82,7 @@ refuse-requires-5 c κs = search needs
 returns-5 : tie.Need-returns-5
 returns-5 c =
     let b = c .before .before .before .before .before .before .before .before .before .before .before .before .before .before .args in
-    let no : leb (b .s .commit) (common (b .s) (b .t)) ≡ false = lt-leb (b .s .commit) (common (b .s) (b .t)) (omega (arith, c .before .before .before .common-beginning .ensures)) in
+    let no : leb (b .s .head .commit) (common (b .s) (b .t)) ≡ false = lt-leb (b .s .head .commit) (common (b .s) (b .t)) (omega (arith, c .before .before .before .common-beginning .ensures)) in
     rw (secondary (c .before .before .before .before .before .before .before .before .before .before .before), filled (c .before .before .before .before .before .before .before .before .before), below (c .before .before .before .before .before .before), parted (c .before .before .before .before), no) (c .refuse5 .ensures)
 
 join-requires : tie.Need-join-requires

@@ -15,12 +15,12 @@ refuse-requires c κs = search needs
 returns : tie.Need-returns
 returns c =
     let s = c .before .before .before .args .s in
-    c .refuse .ensures ∙ sym (decided-broken (refusing s) (downDone s) {rs = downRules s} (here (not-true (s .primary) (c .before .if1 .taken))))
+    c .refuse .ensures ∙ sym (decided-broken (refusing s) (downDone s) {rs = downRules (s .head)} (here (not-true (s .head .primary) (c .before .if1 .taken))))
 
 returns-2 : tie.Need-returns-2
 returns-2 c =
-    let s = c .before .before .before .before .args .s in
-    sym (decided-clear (refusing s) (downDone s) (downRules s) (not-false (s .primary) (c .before .before .if1 .left), tt))
+    let s = c .before .before .before .before .before .args .s in
+    sym (decided-clear (refusing s) (downDone s) (downRules (s .head)) (not-false (s .head .primary) (c .before .before .before .if1 .left), tt))
 
 pub steps-down-spec : {M : Type 1} → statement M
 steps-down-spec = tie.close (tie.spec refuse-requires returns returns-2)

@@ -9,13 +9,13 @@ refuse-requires : tie.Need-refuse-requires
 refuse-requires c κs = search needs
 
 returns : tie.Need-returns
-returns c = rw (le-ltb (c .before .before .before .args .s .wall) limit (c .before .if1 .taken)) (c .refuse .ensures)
+returns c = rw (le-ltb (c .before .before .before .args .s .head .wall) limit (c .before .if1 .taken)) (c .refuse .ensures)
 
-add-t4 : tie.Need-add-t4
-add-t4 c = search needs
+add-t5 : tie.Need-add-t5
+add-t5 c = search needs
 
 returns-2 : tie.Need-returns-2
-returns-2 c = rw (lt-ltb (c .before .before .before .before .before .args .s .wall) limit (c .before .before .before .if1 .left))
+returns-2 c = rw (lt-ltb (c .before .before .before .before .before .before .args .s .head .wall) limit (c .before .before .before .before .if1 .left))
 
 pub wall-clock-spec : {M : Type 1} → statement M
-wall-clock-spec = tie.close (tie.spec refuse-requires returns add-t4 returns-2)
+wall-clock-spec = tie.close (tie.spec refuse-requires returns add-t5 returns-2)

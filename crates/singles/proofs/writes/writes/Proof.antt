@@ -22,7 +22,7 @@ key-fits c = le-leb (c .before .args .key) highestKey (c .if1 .left)
 value-fits : (c : tie.Else2) → leb 1 (c .before .before .args .value) ≡ true
 value-fits c = le-leb 1 (c .before .before .args .value) (c .if2 .left)
 
-primary : (c : tie.Else3) → c .before .before .before .before .args .s .primary ≡ true
+primary : (c : tie.Else3) → c .before .before .before .before .args .s .head .primary ≡ true
 primary c = not-false _ (c .if3 .left)
 
 room : (c : tie.Else4) → ltb (lengthOf (c .before .before .before .before .before .before .before .args .s .log)) logLimit ≡ true
@@ -47,7 +47,7 @@ returns-3 : tie.Need-returns-3
 returns-3 c =
     let b = c .before .before .before .before .before .args in
     c .refuse3 .ensures ∙ sym (decided-broken (refusing (b .s)) (writeDone (b .s) (b .key) (b .value)) {rs = writeRules (b .s) (b .key) (b .value)}
-    (later (key-fits (c .before .before .before .before)) (later (value-fits (c .before .before .before)) (here (not-true (b .s .primary) (c .before .if3 .taken))))))
+    (later (key-fits (c .before .before .before .before)) (later (value-fits (c .before .before .before)) (here (not-true (b .s .head .primary) (c .before .if3 .taken))))))
 
 length-of-requires : tie.Need-length-of-requires
 length-of-requires c κs = search needs

@@ -11,7 +11,7 @@ use Rattle.wholes.proofs.clocks_agree.greatest_clock.Statement.{stateme
 use Rattle.wholes.proofs.clocks_agree.greatest_clock.Tie as tie
 
 abbrev Inv-loop : tie.InvT-loop
-Inv-loop c size most₀ i₀ most i = (i ≤ size) × (most ≡ greatest i (λ j. serverAt c j .wall))
+Inv-loop c size most₀ i₀ most i = (i ≤ size) × (most ≡ greatest i (λ j. serverAt c j .head .wall))
 
 abbrev μ-loop : tie.MeasureT-loop
 μ-loop c size most₀ i₀ most i = size - i
@@ -37,13 +37,13 @@ loop-less c = search needs
 loop-again : tie.Need-loop-again Inv-loop μ-loop
 loop-again c =
     let b = c .before .before .before .before in
-    (search needs, ⊎-elim (λ w. omega (arith, greatest-more (λ j. serverAt (b .before .before .args .t1) j .wall) (b .loop .i))) (λ w. omega (arith, greatest-more (λ j. serverAt (b .before .before .args .t1) j .wall) (b .loop .i))) (c .if1 .came))
+    (search needs, ⊎-elim (λ w. omega (arith, greatest-more (λ j. serverAt (b .before .before .args .t1) j .head .wall) (b .loop .i))) (λ w. omega (arith, greatest-more (λ j. serverAt (b .before .before .args .t1) j .head .wall) (b .loop .i))) (c .if1 .came))
 
 returns : tie.Need-returns Inv-loop μ-loop
 returns c =
     let b = c .before in
     let e : b .loop .i ≡ serverCount (b .before .before .args .t1) = omega (arith, b .before .server-count .ensures) in
-    b .loop .inv .1 ∙ ap (λ (m : ℕ). greatest m (λ j. serverAt (b .before .before .args .t1) j .wall)) e
+    b .loop .inv .1 ∙ ap (λ (m : ℕ). greatest m (λ j. serverAt (b .before .before .args .t1) j .head .wall)) e
 
 pub greatest-clock-spec : {M : Type 1} → statement M
 greatest-clock-spec =

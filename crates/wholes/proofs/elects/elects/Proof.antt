@@ -114,7 +114,7 @@ returns-6 c =
     let b = c .before .before .before .before .before .before .before .before .before .before .before .before .before .before .args in
     c .refuse-all6 .ensures ∙ sym (decided-broken (refusingAll (b .t1)) (electDone (b .t1) (b .a) (b .set)) {rs = electRules (b .t1) (b .a) (b .set)}
     (later (in-range (c .before .before .before .before .before .before .before .before .before .before .before .before)) (later (inside (c .before .before .before .before .before .before .before .before .before .before)) (later (most (c .before .before .before .before .before .before .before .before)) (later (holds (c .before .before .before .before .before .before)) (later (willing (c .before .before .before))
-    (here (le-ltb (serverAt (b .t1) (b .a) .term) limit (c .before .if6 .taken)))))))))
+    (here (le-ltb (serverAt (b .t1) (b .a) .head .term) limit (c .before .if6 .taken)))))))))
 
 add-term : tie.Need-add-term
 add-term c = search needs
@@ -127,7 +127,7 @@ returns-7 c =
     let b = c .before .before .before .before .before .before .before .before .before .before .before .before .before .before .before .args in
     let o : _≡_ {A = Outcome} (record { cluster = c .elect-all .result; answer = Elected (newTerm (b .t1) (b .a)) }) (electDone (b .t1) (b .a) (b .set)) = λ i. record { cluster = c .elect-all .ensures i; answer = Elected (newTerm (b .t1) (b .a)) } in
     o ∙ sym (decided-clear (refusingAll (b .t1)) (electDone (b .t1) (b .a) (b .set)) (electRules (b .t1) (b .a) (b .set))
-    (in-range (c .before .before .before .before .before .before .before .before .before .before .before .before .before), (inside (c .before .before .before .before .before .before .before .before .before .before .before), (most (c .before .before .before .before .before .before .before .before .before), (holds (c .before .before .before .before .before .before .before), (willing (c .before .before .before .before), (lt-ltb (serverAt (b .t1) (b .a) .term) limit (c .before .before .if6 .left), tt)))))))
+    (in-range (c .before .before .before .before .before .before .before .before .before .before .before .before .before), (inside (c .before .before .before .before .before .before .before .before .before .before .before), (most (c .before .before .before .before .before .before .before .before .before), (holds (c .before .before .before .before .before .before .before), (willing (c .before .before .before .before), (lt-ltb (serverAt (b .t1) (b .a) .head .term) limit (c .before .before .if6 .left), tt)))))))
 
 pub elects-spec : {M : Type 1} → statement M
 elects-spec =
