@@ -33,9 +33,9 @@ pub byte-drops-the-high-digit : byteOf 49 48 ≡ 16
 unfolding digitOf byteOf
 byte-drops-the-high-digit = refl
 
-pub all-hex-of-26 : allHex (replicate 26 48 ++ (103 ∷ [])) ≡ false
+pub all-hex-by-the-least : allHex (replicate 26 48 ++ (103 ∷ [])) ≡ false
 unfolding every digitOf allHex
-all-hex-of-26 = refl
+all-hex-by-the-least = refl
 
 pub all-hex-of-none : allHex [] ≡ true
 unfolding every allHex

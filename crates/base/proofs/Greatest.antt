@@ -1,11 +1,22 @@
 -- Laws of `greatest`, for a loop that keeps the greatest value so far. Assumes nothing.
-use mathlib.Core.Path.{_≡_, refl}
+use mathlib.Core.Path.{_≡_, refl, ap, _∙_}
+use mathlib.Core.Bool.{Bool, true, false, _&&_}
 use Prim.Native.Nat.{ℕ, zero, suc, _+_, _<_, _≤_, max}
 use native.Mathlib.Nat.{eq-or-lt-of-le, le-of-suc-le-suc, not-suc-le-zero}
 use native.Mathlib.Numerals.{add-one}
 use native.Mathlib.Omega.{arith}
+use borrow.Author.Tests.{lt-ltb, le-ltb, ltb-true, ltb-false}
+use lib.Dec.{ltb}
 use mathlib.Core.Logic.{⊎-elim}
-use Rattle.base.specs.Numbers.{greatest}
+use Rattle.base.specs.Numbers.{every, greatest}
+
+max-below : (x y b : ℕ) → ltb (max x y) b ≡ (ltb y b && ltb x b)
+max-below x y b = go (ltb y b) (ltb x b) refl refl
+  where
+    go : (t u : Bool) → ltb y b ≡ t → ltb x b ≡ u → ltb (max x y) b ≡ (t && u)
+    go true true p q = lt-ltb (max x y) b (omega (arith, ltb-true y b p, ltb-true x b q))
+    go true false p q = le-ltb (max x y) b (omega (arith, ltb-false x b q))
+    go false u p q = le-ltb (max x y) b (omega (arith, ltb-false y b p))
 
 module _ (f : ℕ → ℕ) where
   pub greatest-none : 0 ≡ greatest 0 f
@@ -29,3 +40,9 @@ module _ (f : ℕ → ℕ) where
   unfolding greatest
   greatest-below zero k h = omega arith
   greatest-below (suc n) k h = omega (arith, h n (omega arith), greatest-below n k (λ i l. h i (omega arith)))
+
+  -- it is below a bound just where every value is
+  pub greatest-every : (n b : ℕ) → 0 < b → ltb (greatest n f) b ≡ every n (λ i. ltb (f i) b)
+  unfolding greatest every
+  greatest-every zero b h = lt-ltb 0 b h
+  greatest-every (suc n) b h = max-below (f n) (greatest n f) b ∙ ap (λ (t : Bool). t && ltb (f n) b) (greatest-every n b h)

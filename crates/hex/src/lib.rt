@@ -54,19 +54,20 @@ fn char_at(b: u8, i: usize) -> u8
     }
 }
 
-// Whether every character is 0-9 a-f.
+// Whether every character is 0-9 a-f. It looks at all of them and asks once, which is quicker than to ask each.
 pub fn all_hex(line: &[u8]) -> bool
     ensures { λ r. ⌜ r ≡ allHex (now (line .entry)) ⌝ }
 {
+    let mut greatest: u8 = 0;
     let mut i: usize = 0;
     while i < line.len() {
         let d = digit(line[i]);
-        if RADIX <= d {
-            return false;
+        if greatest < d {
+            greatest = d;
         }
         i += 1;
     }
-    true
+    greatest < RADIX
 }
 
 // Puts the bytes of a line into out, as far as there are bytes and places.

@@ -2,6 +2,7 @@
 pub mod Whole
 pub mod Parts
 pub mod Along
+pub mod Ahead
 pub mod Planned
 pub mod Held
 pub mod Ends

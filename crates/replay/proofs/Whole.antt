@@ -51,7 +51,7 @@ fresh-holds = fits {p = []} refl refl (omega arith) refl refl
 snoc-long : (p : List ℕ) (b : ℕ) → length (p ++ (b ∷ [])) ≡ length p + 1
 snoc-long p b = length-append p (b ∷ [])
 
-push-holds : {r : Reader} {p : List ℕ} (b : ℕ) → StandsFor r p → StandsFor (pushOf r b) (p ++ (b ∷ []))
+pub push-holds : {r : Reader} {p : List ℕ} (b : ℕ) → StandsFor r p → StandsFor (pushOf r b) (p ++ (b ∷ []))
 unfolding pushOf
 push-holds {r} {p} b (fits o f l t n) = go (ltb (r .fill) kept) refl
   where
@@ -74,7 +74,7 @@ not-kept : (s : Cluster) (x y : List ℕ) → (length x ≡ kept → ⊥) → (l
 unfolding answerTo framed
 not-kept s x y p q = simp (ne-eqb _ kept p, ne-eqb _ kept q)
 
-held-answer : (s : Cluster) {r : Reader} {p : List ℕ} → StandsFor r p → answerTo s (lineHeld r) ≡ answerTo s p
+pub held-answer : (s : Cluster) {r : Reader} {p : List ℕ} → StandsFor r p → answerTo s (lineHeld r) ≡ answerTo s p
 unfolding lineHeld
 held-answer s {r} {p} (fits o f l t n) =
     ap (answerTo s) (simp (o, f, le-leb _ kept l) t)

@@ -4,11 +4,16 @@ use Prim.Native.Nat.{ℕ, suc, _+_, _-_, _*_}
 use mathlib.Core.Bool.{Bool, true, false, cond}
 use mathlib.Core.List.{List, [], _∷_, _++_}
 use lib.Dec.{ltb, leb, eqb}
-use lib.ListN.{length, take, drop, set, replicate}
+use lib.ListN.{length, getD, take, drop, set, replicate}
 use Rattle.cluster.specs.declared.Cluster.{Cluster}
 use Rattle.frames.specs.Layout.{stepBytes}
 use Rattle.answers.specs.Answers.{answerBytes}
 use Rattle.hex.specs.Lines.{chars}
+use Rattle.frames.specs.declared.ReadStep.{ReadStep}
+use Rattle.frames.specs.declared.ReadStep.the-variants.{Step, NoFrame}
+use Rattle.frames.specs.Steps.{readStep}
+use Rattle.replay.specs.declared.Came.the-variants.{Line, Character}
+use Rattle.replay.specs.declared.Next.{Next}
 use Rattle.replay.specs.declared.Reader.{Reader}
 use Rattle.replay.specs.declared.Session.{Session}
 use Rattle.replay.specs.declared.Fed.{Fed}
@@ -42,6 +47,27 @@ unfoldable pub pushOf : Reader → ℕ → Reader
 pushOf r b =
     cond (ltb (r .fill) kept) (record { held = set (r .held) (r .fill) b; fill = r .fill + 1; over = r .over })
     (record { held = r .held; fill = r .fill; over = true })
+
+-- nothing of a line was read
+abbrev pub isEmpty : Reader → Bool
+isEmpty r = cond (r .over) false (eqb (r .fill) 0)
+
+-- a line came, which reads so
+abbrev pub cameLine : ReadStep → ℕ → Next
+cameLine read took = record { reader = freshReader; took = took; came = Line read }
+
+-- the step of the line that a text has from a place on, where the reader is fresh, it has a frame's length and a line feed ends it
+unfoldable pub wholeLine : Reader → List ℕ → ℕ → ReadStep
+wholeLine r text at =
+    cond (isEmpty r) (cond (ltb (at + kept) (length text)) (cond (eqb (getD text (at + kept) 0) lineFeed) (readStep (take kept (drop at text))) NoFrame) NoFrame) NoFrame
+
+-- what a text has next from a place on: a whole step line, or else one byte
+unfoldable pub nextBy : ReadStep → Reader → ℕ → Next
+nextBy (Step s) r b = cameLine (Step s) (kept + 1)
+nextBy NoFrame r b = cond (eqb b lineFeed) (cameLine (readStep (lineHeld r)) 1) (record { reader = pushOf r b; took = 1; came = Character })
+
+abbrev pub nextOf : Reader → List ℕ → ℕ → Next
+nextOf r text at = nextBy (wholeLine r text at) r (getD text at 0)
 
 -- after one byte: the session, and what is said
 unfoldable pub after : Session → ℕ → Session
@@ -93,10 +119,6 @@ placed out at xs = take at out ++ xs ++ drop (at + length xs) out
 -- what was said, and the rest of the buffer as it was
 unfoldable pub fedOut : Session → List ℕ → List ℕ → List ℕ
 fedOut s text out = placed out 0 (says s (take (taking s text (length out)) text))
-
--- nothing of a line was read
-abbrev pub isEmpty : Reader → Bool
-isEmpty r = cond (r .over) false (eqb (r .fill) 0)
 
 -- the end of a text: a rest counts if it isn't empty, and the reader is fresh again
 unfoldable pub ending : Session → List ℕ

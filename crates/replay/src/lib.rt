@@ -1,10 +1,10 @@
 // Texts: one answer line for each line, in whatever pieces the text arrives.
 ghost use mathlib.Core.Path.{_≡_};
-ghost use Prim.Native.Nat.{_≤_, _+_};
+ghost use Prim.Native.Nat.{_≤_, _<_, _+_};
 ghost use lib.ListN.{length};
 ghost use Rattle.frames.specs.Steps.{readStep};
 ghost use Rattle.replay.specs.Texts.{respond, lineOf};
-ghost use Rattle.replay.specs.Pieces.{answerLine, freshReader, begun, lineHeld, pushOf, placed, isEmpty, fedOf, fedOut, finishOf, finishOut};
+ghost use Rattle.replay.specs.Pieces.{answerLine, freshReader, begun, lineHeld, pushOf, cameLine, wholeLine, nextOf, placed, isEmpty, fedOf, fedOut, finishOf, finishOut};
 ghost use Rattle.replay.specs.Plans.{planAlone, planApart, placeOf, planOf};
 use cluster::Cluster;
 use frames::ReadStep;
@@ -41,6 +41,19 @@ pub struct Finished {
     pub session: Session,
     pub wrote: usize,
     pub ended: bool,
+}
+
+// What a text has next: a line that reads so, or a character of one.
+pub enum Came {
+    Line(ReadStep),
+    Character,
+}
+
+// What came, how many bytes of the text it took, and the reader then.
+pub struct Next {
+    pub reader: Reader,
+    pub took: usize,
+    pub came: Came,
 }
 
 // What a line is to do to the record: refuse, step one server that looks at another, or step the whole record.
@@ -98,6 +111,65 @@ pub fn step_held(r: Reader) -> ReadStep
     }
     let b = r.held;
     frames::read_frame(b)
+}
+
+// Whether nothing of a line was read.
+pub fn is_empty(r: Reader) -> bool
+    ensures { λ q. ⌜ q ≡ isEmpty r ⌝ }
+{
+    if r.over {
+        return false;
+    }
+    r.fill == 0
+}
+
+// A line came, so the reader is fresh again.
+fn came_line(read: ReadStep, took: usize) -> Next
+    ensures { λ q. ⌜ q ≡ cameLine read took ⌝ }
+{
+    Next {
+        reader: fresh_reader(),
+        took: took,
+        came: Came::Line(read),
+    }
+}
+
+// The step of the whole line that the text has from a place on, where the reader is fresh and the line is a step's frame.
+fn whole_line(r: Reader, text: &[u8], at: usize) -> ReadStep
+    requires { ⌜ at < length (now text) ⌝ }
+    ensures { λ q. ⌜ q ≡ wholeLine r (now (text .entry)) at ⌝ }
+{
+    if !is_empty(r) {
+        return ReadStep::NoFrame;
+    }
+    if text.len() - at <= frames::STEP_CHARS {
+        return ReadStep::NoFrame;
+    }
+    let end = at + frames::STEP_CHARS;
+    if text[end] != LINE_FEED {
+        return ReadStep::NoFrame;
+    }
+    frames::read_step(&text[at..end])
+}
+
+// What the text has next from a place on: a whole step line is read where it stands, anything else byte by byte.
+fn take_next(r: Reader, text: &[u8], at: usize) -> Next
+    requires { ⌜ at < length (now text) ⌝ }
+    ensures { λ q. ⌜ q ≡ nextOf r (now (text .entry)) at ⌝ }
+{
+    let whole = whole_line(r, text, at);
+    if let ReadStep::Step(s) = whole {
+        return came_line(ReadStep::Step(s), frames::STEP_CHARS + 1);
+    }
+    let b = text[at];
+    if b == LINE_FEED {
+        return came_line(step_held(r), 1);
+    }
+    Next {
+        reader: pushed(r, b),
+        took: 1,
+        came: Came::Character,
+    }
 }
 
 fn plan_alone(size: usize, a: usize, s: Step) -> Plan
@@ -208,16 +280,17 @@ pub fn feed(s: Session, text: &[u8], out: &mut [u8]) -> Fed
     let mut w: usize = 0;
     let mut i: usize = 0;
     while i < text.len() && ANSWER_LINE <= out.len() - w {
-        let b = text[i];
-        i += 1;
-        if b != LINE_FEED {
-            r = pushed(r, b);
+        let n = take_next(r, text, i);
+        i += n.took;
+        let q = n.reader;
+        r = q;
+        let came = n.came;
+        let Came::Line(read) = came else {
             continue;
-        }
+        };
         let size = cluster::server_count(c.count);
         let formed = cluster::well_formed(c);
-        let p = plan_for(size, formed, step_held(r));
-        r = fresh_reader();
+        let p = plan_for(size, formed, read);
         let answer = match p {
             Plan::Refuse(x) => Answer::Refused(x),
             Plan::Server(a, b, step) => {
@@ -236,16 +309,6 @@ pub fn feed(s: Session, text: &[u8], out: &mut [u8]) -> Fed
         w += ANSWER_LINE;
     }
     so_far(c, r, i, w)
-}
-
-// Whether nothing of a line was read.
-pub fn is_empty(r: Reader) -> bool
-    ensures { λ q. ⌜ q ≡ isEmpty r ⌝ }
-{
-    if r.over {
-        return false;
-    }
-    r.fill == 0
 }
 
 // The record and the answer after a line that reads so.

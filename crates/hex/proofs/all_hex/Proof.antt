@@ -1,44 +1,37 @@
--- `hex::all_hex` meets its contract. Assumes nothing.
-use Rattle.hex.specs.Digits.{radix, digitOf, isDigit}
+-- `hex::all_hex` meets its contract. The loop keeps the greatest value of a character; it is a digit's just where every one is. Assumes nothing.
+use Rattle.hex.specs.Digits.{radix, digitOf}
 use Rattle.hex.specs.Lines.{allHex}
-use Rattle.base.specs.Numbers.{every}
-use Rattle.base.proofs.Every.{every-none, every-more, every-fails}
+use Rattle.base.specs.Numbers.{greatest}
+use Rattle.base.proofs.Greatest.{greatest-none, greatest-more, greatest-every}
 use native.Mathlib.Omega.{arith}
-use borrow.Author.Tests.{lt-ltb, le-ltb}
+use lib.Dec.{ltb}
 use lib.ListN.{length, getD}
-use mathlib.Core.Bool.{Bool, true}
 use mathlib.Core.List.{List}
-use mathlib.Core.Path.{_≡_, ap, sym, _∙_}
+use mathlib.Core.Logic.{⊎-elim}
+use mathlib.Core.Path.{_≡_, ap, _∙_}
 use Prim.Native.Nat.{ℕ, _≤_, _-_}
 use borrow.Author.Needs.{needs}
 use Rattle.hex.proofs.all_hex.Statement.{statement}
 use Rattle.hex.proofs.all_hex.Tie as tie
 
--- the character at place i is a digit
-abbrev ok : List ℕ → ℕ → Bool
-ok line i = isDigit (getD line i 0)
+-- the value of the character at place i
+abbrev value : List ℕ → ℕ → ℕ
+value line i = digitOf (getD line i 0)
 
 abbrev Inv-loop : tie.InvT-loop
-Inv-loop line i₀ i = (i ≤ length line) × (every i (ok line) ≡ true)
+Inv-loop line most₀ i₀ most i = (i ≤ length line) × (most ≡ greatest i (value line))
 
 abbrev μ-loop : tie.MeasureT-loop
-μ-loop line i₀ i = length line - i
+μ-loop line most₀ i₀ most i = length line - i
 
 loop-holds : tie.Need-loop-holds Inv-loop μ-loop
-loop-holds c = (search needs, every-none _)
+loop-holds c = (search needs, greatest-none _)
 
 shared-slice-read-digit : tie.Need-shared-slice-read-digit Inv-loop μ-loop
 shared-slice-read-digit c = search needs
 
 digit-requires : tie.Need-digit-requires Inv-loop μ-loop
 digit-requires c κs = search needs
-
-returns : tie.Need-returns Inv-loop μ-loop
-unfolding allHex
-returns c =
-    let b = c .before .before .before .before in
-    let l = b .before .before .args .line .now in
-    sym (every-fails (ok l) _ (b .loop .i) (search needs) (le-ltb (digitOf (getD l (b .loop .i) 0)) radix (omega (arith, c .before .digit .ensures))))
 
 add-i : tie.Need-add-i Inv-loop μ-loop
 add-i c = search needs
@@ -49,15 +42,16 @@ loop-less c = search needs
 loop-again : tie.Need-loop-again Inv-loop μ-loop
 loop-again c =
     let b = c .before .before .before .before in
-    let l = b .before .before .args .line .now in
-    (search needs, every-more (ok l) _ (b .loop .inv .1) (lt-ltb (digitOf (getD l (b .loop .i) 0)) radix (omega (arith, c .before .digit .ensures))))
+    let more = greatest-more (value (b .before .before .args .line .now)) (b .loop .i) in
+    (search needs, ⊎-elim (λ w. omega (arith, more, c .before .digit .ensures)) (λ w. omega (arith, more, c .before .digit .ensures)) (c .if1 .came))
 
-returns-2 : tie.Need-returns-2 Inv-loop μ-loop
+returns : tie.Need-returns Inv-loop μ-loop
 unfolding allHex
-returns-2 c =
-    let l = c .before .before .before .args .line .now in
-    let e : c .before .loop .i ≡ length l = omega arith in
-    sym (ap (λ (k : ℕ). every k (ok l)) (sym e) ∙ c .before .loop .inv .1)
+returns c =
+    let b = c .before in
+    let line = b .before .before .args .line .now in
+    let e : b .loop .i ≡ length line = omega arith in
+    ap (λ (n : ℕ). ltb n radix) (b .loop .inv .1 ∙ ap (λ (n : ℕ). greatest n (value line)) e) ∙ greatest-every (value line) (length line) radix (omega arith)
 
 pub all-hex-spec : {M : Type 1} → statement M
 all-hex-spec =
@@ -68,8 +62,7 @@ all-hex-spec =
     loop-holds
     shared-slice-read-digit
     digit-requires
-    returns
     add-i
     loop-less
     loop-again
-    returns-2)
+    returns)

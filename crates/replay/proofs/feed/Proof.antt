@@ -3,16 +3,19 @@ use Rattle.replay.specs.declared.Plan.{Plan}
 use Rattle.replay.specs.declared.Session.{Session}
 use Rattle.steps.specs.declared.Stepped.{Stepped}
 use Rattle.replay.specs.declared.Plan.the-variants.{Refuse, Server, Record}
-use Rattle.replay.proofs.Along.{Along, start, by-line, by-byte, stopped, ended}
+use Rattle.replay.proofs.Along.{Along, start, stopped, ended}
+use Rattle.replay.proofs.Ahead.{Moved, moved, line-fresh, by-character, by-came}
 use Rattle.replay.proofs.Planned.{Inside, plan-does, plan-inside}
+use Rattle.base.proofs.Facts.{mapped-long}
+use Rattle.frames.specs.declared.ReadStep.{ReadStep}
 use mathlib.Core.Bool.{Bool}
 use Rattle.replay.specs.Plans.{planOf, carriedOut}
-use Rattle.replay.specs.Pieces.{answerLine, lineHeld}
-use Rattle.replay.specs.Texts.{answerTo}
-use Rattle.frames.specs.Steps.{readStep}
+use Rattle.replay.specs.Pieces.{kept, answerLine}
+use Rattle.replay.specs.Texts.{respond}
 use Rattle.steps.specs.declared.Outcome.{Outcome}
 use Rattle.cluster.specs.WellFormed.{wellFormed}
 use Rattle.cluster.specs.Servers.{serverCount, withServer}
+use Rattle.cluster.specs.declared.Cluster.{Cluster}
 use lib.ListN.{length}
 use native.Mathlib.Omega.{arith}
 use Prim.Native.Nat.{ℕ, _-_, _≤_, _<_}
@@ -20,84 +23,101 @@ use borrow.Author.Tests.{leb-true, leb-false}
 use mathlib.Core.Logic.{⊎-elim}
 use mathlib.Core.Path.{_≡_, sym, ap, _∙_}
 use borrow.Author.Needs.{needs}
+use mir.Syntax.{w64}
+use mir.Val.{Fits}
 use Rattle.replay.proofs.feed.Statement.{statement}
 use Rattle.replay.proofs.feed.Tie as tie
 
 abbrev Inv-loop : tie.InvT-loop
-Inv-loop text out₀ c₀ r₀ w₀ i₀ out c r w i = Along (record { cluster = c₀; reader = r₀ }) text out₀ out (record { cluster = c; reader = r }) w i
+Inv-loop text out₀ c₀ r₀ w₀ i₀ out c r w i =
+    Along (record { cluster = c₀; reader = r₀ }) text out₀ out (record { cluster = c; reader = r }) w i × (length (r .held) ≡ kept)
 
 abbrev μ-loop : tie.MeasureT-loop
 μ-loop text out₀ c₀ r₀ w₀ i₀ out c r w i = length text - i
 
+-- the buffer's length fits a word; deep in the function no search finds that
+out-fits : (c : tie.Start Inv-loop μ-loop) → Fits w64 (length (c .args .out .now))
+out-fits c = search needs
+
 -- there is room for an answer line
 room : (c : tie.Then1 Inv-loop μ-loop) → answerLine ≤ length (c .before .before .before .before .before .before .before .args .out .now) - c .before .before .loop .w
-room c = let l = c .before .before .loop in omega (arith, leb-true answerLine (length (l .out) - l .w) (c .if1 .taken), l .inv .same)
+room c = let l = c .before .before .loop in omega (arith, leb-true answerLine (length (l .out) - l .w) (c .if1 .taken), l .inv .0 .same)
 
 no-room : (c : tie.Else1 Inv-loop μ-loop) → length (c .before .before .before .before .before .before .before .args .out .now) - c .before .before .loop .w < answerLine
-no-room c = let l = c .before .before .loop in omega (arith, leb-false answerLine (length (l .out) - l .w) (c .if1 .left), l .inv .same)
+no-room c = let l = c .before .before .loop in omega (arith, leb-false answerLine (length (l .out) - l .w) (c .if1 .left), l .inv .0 .same)
 
--- the session when the line feed came
-abbrev before : tie.After-plan-for Inv-loop μ-loop → Session
-before c = let l = c .before .before .before .before .before .before .before .before .loop in record { cluster = l .c; reader = l .r }
+-- what came next takes a byte or more of the text
+taken : (c : tie.After-take-next Inv-loop μ-loop) → Moved (c .before .before .before .before .before .before .before .before .args .text .now) (c .before .before .before .loop .i) (c .take-next .result)
+taken c = let l = c .before .before .before .loop in moved (l .r) _ (l .i) _ (omega arith) (l .inv .1) (c .take-next .ensures)
 
--- the plan is that of the line that was read
-planned : (c : tie.After-plan-for Inv-loop μ-loop) → c .plan-for .result ≡ planOf (serverCount (before c .cluster)) (wellFormed (before c .cluster)) (readStep (lineHeld (before c .reader)))
+-- the record when the line came
+abbrev before : tie.After-plan-for Inv-loop μ-loop → Cluster
+before c = c .before .before .before .before .before .before .before .before .before .before .before .loop .c
+
+-- what the line read as
+abbrev came : tie.After-plan-for Inv-loop μ-loop → ReadStep
+came c = c .before .before .before .before .came .given .0 .0
+
+-- the plan is that of the line
+planned : (c : tie.After-plan-for Inv-loop μ-loop) → c .plan-for .result ≡ planOf (serverCount (before c)) (wellFormed (before c)) (came c)
 planned c =
-    let n = c .before .before .before .server-count in
-    let t = c .before .before .well-formed in
-    let s = c .before .step-held in
-    c .plan-for .ensures ∙ ap (λ (k : ℕ). planOf k (t .result) (s .result)) (n .ensures)
-    ∙ ap (λ (b : Bool). planOf (serverCount (before c .cluster)) b (s .result)) (t .ensures)
-    ∙ ap (planOf (serverCount (before c .cluster)) (wellFormed (before c .cluster))) (s .ensures)
+    let n = c .before .before .server-count in
+    let t = c .before .well-formed in
+    c .plan-for .ensures ∙ ap (λ (k : ℕ). planOf k (t .result) (came c)) (n .ensures)
+    ∙ ap (λ (b : Bool). planOf (serverCount (before c)) b (came c)) (t .ensures)
 
 -- the servers that it names are there
-inside : (c : tie.After-known-told2 Inv-loop μ-loop) → Inside 7 (c .before .p2 .given .0 .0) (c .before .p2 .given .0 .1 .0)
+inside : (c : tie.After-known-told3 Inv-loop μ-loop) → Inside 7 (c .before .p2 .given .0 .0) (c .before .p2 .given .0 .1 .0)
 inside c =
-    let h = plan-inside _ _ _ _ _ _ (sym (planned (c .before .before .before .before)) ∙ c .before .p2 .given .1) in
+    let h = plan-inside _ _ _ _ _ _ (sym (planned (c .before .before .before)) ∙ c .before .p2 .given .1) in
     record { first = omega (arith, h .first); second = omega (arith, h .second) }
 
 -- a plan that was carried out gave what the line gives
-settled : (c : tie.After-plan-for Inv-loop μ-loop) (p : Plan) (o : Outcome) → c .plan-for .result ≡ p → o ≡ carriedOut (before c .cluster) p
-    → o ≡ answerTo (before c .cluster) (lineHeld (before c .reader))
-unfolding answerTo
-settled c p o e h = h ∙ ap (carriedOut (before c .cluster)) (sym e ∙ planned c) ∙ plan-does (before c .cluster) (readStep (lineHeld (before c .reader)))
+settled : (c : tie.After-plan-for Inv-loop μ-loop) (p : Plan) (o : Outcome) → c .plan-for .result ≡ p → o ≡ carriedOut (before c) p → o ≡ respond (before c) (came c)
+settled c p o e h = h ∙ ap (carriedOut (before c)) (sym e ∙ planned c) ∙ plan-does (before c) (came c)
 
 -- the record and the answer after the line
-outcome : (c : tie.At-match-came Inv-loop μ-loop) → _≡_ {A = Outcome} (record { cluster = c .match .c; answer = c .match .answer }) (answerTo (before (c .before .before) .cluster) (lineHeld (before (c .before .before) .reader)))
+outcome : (c : tie.At-match2-came Inv-loop μ-loop) → _≡_ {A = Outcome} (record { cluster = c .match2 .c; answer = c .match2 .answer }) (respond (before (c .before)) (came (c .before)))
 unfolding carriedOut
 outcome c =
-    let at = c .before .before in
+    let at = c .before in
     ⊎-elim (λ w. settled at (Refuse (w .1 .given .0 .0)) _ (w .1 .given .1) (λ i. record { cluster = w .3 i; answer = w .4 i }))
     (λ v. ⊎-elim
     (λ w. settled at (Server (w .1 .given .0 .0) (w .1 .given .0 .1 .0) (w .1 .given .0 .1 .1 .0)) _ (w .1 .given .1)
     (λ i. record {
-      cluster = (w .7 ∙ ap (λ (r : Stepped). withServer (before at .cluster) (w .1 .given .0 .0) (r .server)) (w .5 .ensures)) i;
+      cluster = (w .7 ∙ ap (λ (r : Stepped). withServer (before at) (w .1 .given .0 .0) (r .server)) (w .5 .ensures)) i;
       answer = (w .8 ∙ ap (λ (r : Stepped). r .answer) (w .5 .ensures)) i;
     }))
     (λ w. settled at (Record (w .1 .given .0 .0)) _ (w .1 .given .1)
     (λ i. record { cluster = (w .5 ∙ ap (λ (r : Outcome). r .cluster) (w .3 .ensures)) i; answer = (w .6 ∙ ap (λ (r : Outcome). r .answer) (w .3 .ensures)) i })) v)
-    (c .match .came)
+    (c .match2 .came)
 
 loop-holds : tie.Need-loop-holds Inv-loop μ-loop
-loop-holds c = start _ _ _
+loop-holds c = (start _ _ _, search (needs, mapped-long))
 
 sub-if1 : tie.Need-sub-if1 Inv-loop μ-loop
 sub-if1 c = search needs
 
-shared-slice-read-b : tie.Need-shared-slice-read-b Inv-loop μ-loop
-shared-slice-read-b c = search needs
+take-next-requires : tie.Need-take-next-requires Inv-loop μ-loop
+take-next-requires c κs = search needs
 
 add-i : tie.Need-add-i Inv-loop μ-loop
-add-i c = search needs
+add-i c = let m = taken (c .before) in search needs
 
-pushed-requires : tie.Need-pushed-requires Inv-loop μ-loop
-pushed-requires c κs = search needs
+enum-known-came : tie.Need-enum-known-came Inv-loop μ-loop
+enum-known-came c = search needs
+
+enum-told : tie.Need-enum-told Inv-loop μ-loop
+enum-told c = search needs
 
 loop-less : tie.Need-loop-less Inv-loop μ-loop
-loop-less c = search needs
+loop-less c = let m = taken (c .before .before .before .before) in search needs
 
 loop-again : tie.Need-loop-again Inv-loop μ-loop
-loop-again c = by-byte _ (c .before .before .before .before .before .loop .inv) (omega arith) (room (c .before .before .before)) (c .before .if2 .taken) (c .pushed .ensures)
+loop-again c =
+    let n = c .before .before .before .before in
+    let l = n .before .before .before in
+    (by-character (l .loop .inv .0) (l .loop .inv .1) (omega arith) (room (n .before)) (n .take-next .result) (n .take-next .ensures) (c .enum-told .given .1), taken n .slots)
 
 server-count-requires : tie.Need-server-count-requires Inv-loop μ-loop
 server-count-requires c κs = search needs
@@ -105,14 +125,8 @@ server-count-requires c κs = search needs
 well-formed-requires : tie.Need-well-formed-requires Inv-loop μ-loop
 well-formed-requires c κs = search needs
 
-step-held-requires : tie.Need-step-held-requires Inv-loop μ-loop
-step-held-requires c κs = search needs
-
 plan-for-requires : tie.Need-plan-for-requires Inv-loop μ-loop
 plan-for-requires c κs = search needs
-
-fresh-reader-requires : tie.Need-fresh-reader-requires Inv-loop μ-loop
-fresh-reader-requires c κs = search needs
 
 enum-known-p : tie.Need-enum-known-p Inv-loop μ-loop
 enum-known-p c = search needs
@@ -148,19 +162,24 @@ core-requires : tie.Need-core-requires Inv-loop μ-loop
 core-requires c κs = search needs
 
 put-requires : tie.Need-put-requires Inv-loop μ-loop
-put-requires c κs = let h = room (c .before .before .before .before .before .before .before .before .before) in search needs
+put-requires c κs = let h = room (c .before .before .before .before .before .before .before .before .before .before .before) in search needs
 
 add-w : tie.Need-add-w Inv-loop μ-loop
-add-w c = search needs
+add-w c = let h = room (c .before .before .before .before .before .before .before .before .before .before .before .before .before .before) in let k = out-fits (c .before .before .before .before .before .before .before .before .before .before .before .before .before .before .before .before .before .before .before .before .before) in search needs
 
 loop-less-2 : tie.Need-loop-less-2 Inv-loop μ-loop
-loop-less-2 c = search needs
+loop-less-2 c = let m = taken (c .before .before .before .before .before .before .before .before .before .before .before .before .before) in search needs
 
 loop-again-2 : tie.Need-loop-again-2 Inv-loop μ-loop
 loop-again-2 c =
     let m = c .before .before .before .before in
-    by-line _ (record { cluster = m .match .c; answer = m .match .answer }) _ (c .before .before .before .before .before .before .before .before .before .before .before .before .before .before .loop .inv) (omega arith) (room (c .before .before .before .before .before .before .before .before .before .before .before .before)) (c .before .before .before .before .before .before .before .before .before .before .if2 .left) (outcome m)
-    (λ i. record { cluster = m .match .c; reader = c .before .before .before .before .before .fresh-reader .ensures i }) (c .before .before .put .ensures)
+    let n = c .before .before .before .before .before .before .before .before .before .before .before .before .before in
+    let l = n .before .before .before in (
+      by-came (l .loop .inv .0) (l .loop .inv .1) (omega arith) (room (n .before)) (n .take-next .result) (came (m .before)) (record { cluster = m .match2 .c; answer = m .match2 .answer }) _ _
+          (n .take-next .ensures) (m .before .before .before .before .before .came .given .1) (outcome m)
+          (λ i. record { cluster = m .match2 .c; reader = line-fresh (l .loop .r) _ (l .loop .i) _ _ (n .take-next .ensures) (m .before .before .before .before .before .came .given .1) i }) (c .before .before .put .ensures),
+      taken n .slots,
+    )
 
 so-far-requires : tie.Need-so-far-requires Inv-loop μ-loop
 so-far-requires c κs = search needs
@@ -170,7 +189,7 @@ same-length c = search needs
 
 returns : tie.Need-returns Inv-loop μ-loop
 returns c =
-    let a = c .before .before .loop .inv in
+    let a = c .before .before .loop .inv .0 in
     let h = ⊎-elim (λ x. stopped a (no-room (record { before = record { before = c .before .before; loop-test = x .0 }; if1 = x .1 }))) (λ x. ended a (let h = x .left in omega arith))
     (c .before .loop-test .came) in
     (c .so-far .ensures ∙ h .0, h .1)
@@ -183,16 +202,15 @@ feed-spec =
     μ-loop
     loop-holds
     sub-if1
-    shared-slice-read-b
+    take-next-requires
     add-i
-    pushed-requires
+    enum-known-came
+    enum-told
     loop-less
     loop-again
     server-count-requires
     well-formed-requires
-    step-held-requires
     plan-for-requires
-    fresh-reader-requires
     enum-known-p
     enum-known-p-2
     mul-one
