@@ -6,8 +6,13 @@ use super::{Answer, Cluster, ENTRIES, Entry, KEY_MAX, Numbers, SERVERS, Step, Ti
 
 /// Takes one step in place; a refused one leaves the record as it was.
 pub fn step(cluster: &mut Cluster, step: &Step) -> Answer {
+    step_where(Cluster::well_formed, cluster, step)
+}
+
+/// The same with another test of the record in the place of "well formed".
+pub fn step_where(holds: impl Fn(&Cluster) -> bool, cluster: &mut Cluster, step: &Step) -> Answer {
     let looks_at_record = !matches!(step, Step::Start { .. });
-    refuse_if(looks_at_record && !cluster.well_formed(), NotWellFormed)?;
+    refuse_if(looks_at_record && !holds(cluster), NotWellFormed)?;
     match *step {
         Step::Start { servers } => cluster.start(servers.into()),
         Step::Elect { a, set } => cluster.elect(a.into(), set),

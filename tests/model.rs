@@ -374,7 +374,7 @@ impl Cluster {
 }
 
 #[path = "kinds.rs"]
-mod kinds;
+pub mod kinds;
 
 pub use self::kinds::step;
 

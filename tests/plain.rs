@@ -5,7 +5,8 @@ mod model;
 mod tally;
 
 use lines::{LINE, put_numbers, read_line, write_bytes};
-use model::{Answer, Cluster, Numbers, step};
+use model::kinds::step_where;
+use model::{Answer, Cluster, Numbers, Step, step};
 use std::io::{self, BufRead, BufReader, BufWriter, ErrorKind, Write};
 use std::process::ExitCode;
 use tally::Tally;
@@ -14,6 +15,8 @@ const HELP: &str = "\
 A model of one small replica set, run over step lines.
 
 plain < steps            writes one answer line for each step line
+plain --trust < steps    writes the same lines, and looks at its record before a step only to see
+                         whether there was a start: it has made that record itself
 plain --tally < steps    writes instead how often each kind was done and how often each condition
                          of its refusals was the one that refused; exits 1 and names them where
                          something that lines can reach never occurred
@@ -30,7 +33,8 @@ const ANSWER_LINE: usize = 2 * ANSWER_FRAME + 1;
 fn main() -> ExitCode {
     let arguments: Vec<String> = std::env::args().skip(1).collect();
     let done = match arguments.iter().map(String::as_str).collect::<Vec<_>>()[..] {
-        [] => write_answers().map(|()| ExitCode::SUCCESS),
+        [] => write_answers(step).map(|()| ExitCode::SUCCESS),
+        ["--trust"] => write_answers(trusting_step).map(|()| ExitCode::SUCCESS),
         ["--tally"] => write_tally(),
         ["--help"] => io::stdout().write_all(HELP.as_bytes()).map(|()| ExitCode::SUCCESS),
         _ => io::stderr().write_all(HELP.as_bytes()).map(|()| ExitCode::from(2)),
@@ -41,10 +45,17 @@ fn main() -> ExitCode {
     })
 }
 
-fn write_answers() -> io::Result<()> {
+fn write_answers(take: impl Fn(&mut Cluster, &Step) -> Answer) -> io::Result<()> {
     let mut output = BufWriter::with_capacity(BLOCK, io::stdout().lock());
-    answer_lines(standard_input(), &mut output)?;
+    answer_lines(take, standard_input(), &mut output)?;
     output.flush()
+}
+
+/// For a record that began as the zero record and that only steps have changed. The zero record has
+/// no servers; only a start sets their count, to 2 at least, and makes a well-formed record, which
+/// every step keeps well formed. So the count alone tells what the whole check would find.
+fn trusting_step(cluster: &mut Cluster, step: &Step) -> Answer {
+    step_where(|cluster| cluster.count > 0, cluster, step)
 }
 
 fn write_tally() -> io::Result<ExitCode> {
@@ -64,10 +75,14 @@ fn standard_input() -> impl BufRead {
     BufReader::with_capacity(BLOCK, io::stdin().lock())
 }
 
-fn answer_lines(input: impl BufRead, output: &mut impl Write) -> io::Result<()> {
+fn answer_lines(
+    take: impl Fn(&mut Cluster, &Step) -> Answer,
+    input: impl BufRead,
+    output: &mut impl Write,
+) -> io::Result<()> {
     let mut cluster = Cluster::ZERO;
     each_line(input, |line| {
-        let answer = read_line(line).and_then(|read| step(&mut cluster, &read));
+        let answer = read_line(line).and_then(|read| take(&mut cluster, &read));
         output.write_all(&answer_line(answer))
     })
 }
@@ -136,15 +151,16 @@ fn each_line(
 mod tests {
     use super::*;
 
-    /// Blocks of every small size, so that lines are cut anywhere.
+    /// Blocks of every small size, so that lines are cut anywhere; and with the record trusted.
     fn answers(steps: &[u8]) -> String {
-        let in_blocks = |size: usize| {
+        let in_blocks = |take: fn(&mut Cluster, &Step) -> Answer, size: usize| {
             let mut output = Vec::new();
-            answer_lines(BufReader::with_capacity(size, steps), &mut output).unwrap();
+            answer_lines(take, BufReader::with_capacity(size, steps), &mut output).unwrap();
             String::from_utf8(output).unwrap()
         };
-        let whole = in_blocks(BLOCK);
-        assert!((1..40).all(|size| in_blocks(size) == whole));
+        let whole = in_blocks(step, BLOCK);
+        assert!((1..40).all(|size| in_blocks(step, size) == whole));
+        assert_eq!(in_blocks(trusting_step, BLOCK), whole);
         whole
     }
 

@@ -66,7 +66,7 @@ plan-lets-a-start-look = refl
 
 -- server 0 hears from server 1, of term 1, at the line feed
 pub the-wrong-server-is-replaced :
-    serverAt (fedOf (record { cluster = two freshServer (holder 1 []); reader = reader (writeStep (Hears 0 1)) 26 false }) (10 ∷ []) 19 .session .cluster) 0 .term
+    serverAt (fedOf (record { cluster = two freshServer (holder 1 []); reader = reader (writeStep (Hears 0 1)) 26 false }) (10 ∷ []) 19 .session .cluster) 0 .head .term
     ≡ 1
 unfolding every count eachFrom isBefore sameTime laterOf sameEntry entryAt inOrder restZero logOk numbersOk countedOk zeroOk serverOk wellFormed digitOf charOf byteOf allHex highOf lowOf wordOf framed bytesOfFrame frameOf stepOfFrame isClean stepIn heardOf rowOf coreOf stepOf respond answerTo lineOf lineHeld after said fedOf
 the-wrong-server-is-replaced = refl

@@ -45,7 +45,7 @@ pub a-pulls-from-itself : pairOf F2 0 0 (Hears 0 0) .answer ≡ A.Refused OutOfR
 unfolding pairOf
 a-pulls-from-itself = refl
 
-pub record-untouched : serverAt (pairOf (two freshServer (holder 1 [])) 0 1 (Hears 0 1) .cluster) 0 .term ≡ 1
+pub record-untouched : serverAt (pairOf (two freshServer (holder 1 [])) 0 1 (Hears 0 1) .cluster) 0 .head .term ≡ 1
 unfolding heardOf oneOf pairOf
 record-untouched = refl
 
