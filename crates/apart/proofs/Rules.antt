@@ -4,7 +4,7 @@ use mathlib.Core.Bool.{true, false}
 use mathlib.Core.List.{[], _∷_}
 use Rattle.base.specs.Numbers.{every, count, highest}
 use Rattle.base.specs.Lists.{eachFrom}
-use Rattle.clock.specs.Times.{isBefore, laterOf}
+use Rattle.clock.specs.Times.{isBefore}
 use Rattle.log.specs.Entries.{entryAt, latestValue}
 use Rattle.cluster.specs.declared.Server.{Server}
 use Rattle.cluster.specs.Servers.{freshServer, zeroCluster, startedOf, serverAt}

@@ -3,11 +3,52 @@
 use contract.Lifetimes.{Lfts}
 use denote.Ref.{RefT, now}
 use mathlib.Core.Path.{_≡_}
-use mathlib.Core.Bool.{true, false, _||_}
-use mathlib.Core.List.{List, _++_}
-use Prim.Native.Nat.{ℕ, _≤_}
-use lib.ListN.{length}
+use mathlib.Core.Bool.{Bool, true, false, _||_}
+use mathlib.Core.List.{List, [], _∷_, _++_}
+use Prim.Native.Nat.{ℕ, _≤_, _<_, _*_, _/_, _%_, _^_}
+use lib.Count.{ones}
+use lib.Dec.{eqb}
+use lib.ListN.{length, getD, take}
 use Rattle.base.proofs.Results.{OneResult, OneOutcome}
+use Rattle.base.specs.Numbers.{count}
+use Rattle.clock.specs.declared.Ticked.the-variants.{To}
+use Rattle.clock.specs.declared.Time.{Time}
+use Rattle.clock.specs.Times.{limit, isBefore, tickOf}
+use Rattle.clock.proofs.Order as order
+use Rattle.clock.proofs.Ticks as ticks
+use Rattle.log.specs.declared.Entry.{Entry}
+use Rattle.log.specs.declared.Log.{Log}
+use Rattle.log.specs.Entries.{sameEntry, entryAt, commonBeginning, latestValue}
+use Rattle.log.specs.Logs.{live, lengthOf, joined}
+use Rattle.log.proofs.Common as common
+use Rattle.log.proofs.Equal as equal
+use Rattle.log.proofs.Latest as latest
+use Rattle.log.proofs.Latest.{found}
+use Rattle.cluster.specs.declared.Server.{Server}
+use Rattle.cluster.specs.Sets.{bits, membersOf, mostOf}
+use Rattle.cluster.proofs.Good as facts
+use Rattle.cluster.proofs.Good.{Good}
+use Rattle.cluster.proofs.Masks as masks
+use Rattle.base.proofs.Counting.{Both}
+use Rattle.steps.specs.declared.Step.the-variants.{Start, Elect, ClocksAgree}
+use Rattle.steps.specs.Answers.{numberOf}
+use Rattle.steps.proofs.Numbers as numbers
+use Rattle.wholes.specs.Starts.{startRules}
+use Rattle.counts.specs.Advances.{passes, highestPassing}
+use Rattle.counts.proofs.Passing as passing
+use Rattle.hex.specs.Digits.{radix, digitOf, charOf}
+use Rattle.hex.specs.Lines.{chars}
+use Rattle.hex.proofs.Values as values
+use Rattle.words.specs.Words.{highOf, lowOf, wordOf}
+use Rattle.words.proofs.Bytes as bytes
+use Rattle.frames.specs.Kinds.{kinds, mustBeZero, isTable}
+use Rattle.frames.specs.Layout.{stepBytes}
+use Rattle.frames.proofs.Lengths as step-lengths
+use Rattle.frames.proofs.Table as tables
+use Rattle.answers.specs.Answers.{answerBytes}
+use Rattle.answers.proofs.Lengths as answer-lengths
+use Rattle.safety.specs.Promise.{Kept}
+use Rattle.safety.proofs.Example as roof
 use Rattle.cluster.specs.declared.Cluster.{Cluster}
 use Rattle.cluster.specs.Ranges.{Fits}
 use Rattle.cluster.specs.Servers.{serverAt, freshCluster, fewestServers, mostServers}
@@ -227,6 +268,117 @@ refusal-9-is-never-written = written.never-9-written
 -- nothing of the promise over steps is lost over lines: every run of steps is a text
 pub every-run-is-a-text : EveryRun
 every-run-is-a-text = runs.every-run
+
+-- ---- what the definitions mean, beside document 01
+
+-- times are ordered by p and then by l: no time is before itself, the order passes on, and two times that neither comes before are one; a
+-- tick is later
+pub no-time-before-itself : (s : Time) → isBefore s s ≡ false
+no-time-before-itself = order.before-itself
+
+pub order-passes-on : (s t u : Time) → isBefore s t ≡ true → isBefore t u ≡ true → isBefore s u ≡ true
+order-passes-on = order.before-trans
+
+pub neither-before-is-one : (s t : Time) → isBefore s t ≡ false → isBefore t s ≡ false → s ≡ t
+neither-before-is-one = order.before-total
+
+pub a-tick-is-later : (wall : ℕ) (t u : Time) → tickOf wall t ≡ To u → isBefore t u ≡ true
+a-tick-is-later = ticks.tick-after
+
+-- equal entries are equal in all four parts
+pub equal-entries-are-one : (d e : Entry) → sameEntry d e ≡ true → d ≡ e
+equal-entries-are-one = equal.sameEntry-eq
+
+pub an-entry-equals-itself : (d : Entry) → sameEntry d d ≡ true
+an-entry-equals-itself = equal.sameEntry-refl
+
+-- the common beginning is common and the longest; what a rollback makes of it is the other log
+pub common-beginning-is-common : (xs ys : List Entry) → take (commonBeginning xs ys) xs ≡ take (commonBeginning xs ys) ys
+common-beginning-is-common = common.common-agrees
+
+pub common-beginning-is-longest : (n : ℕ) (xs ys : List Entry) → n ≤ length xs → n ≤ length ys → take n xs ≡ take n ys → n ≤ commonBeginning xs ys
+common-beginning-is-longest = common.common-longest
+
+pub a-rollback-gives-the-other-log : (a b : Log) → joined a b (commonBeginning (live a) (live b)) ≡ b
+a-rollback-gives-the-other-log = common.rolled-is
+
+-- a read gives the value of the last entry for the key
+pub latest-is-found : (key : ℕ) (es : List Entry) → latestValue key es ≡ entryAt es (found key es) .value
+latest-is-found = latest.latest-found
+
+pub found-is-for-the-key : (key : ℕ) (es : List Entry) → 1 ≤ found key es → entryAt es (found key es) .key ≡ key
+found-is-for-the-key = latest.found-key
+
+pub none-for-the-key-after : (key : ℕ) (es : List Entry) (n : ℕ) → found key es < n → n ≤ length es → entryAt es n .key ≡ key → ⊥
+none-for-the-key-after = latest.found-last
+
+-- the ones of a mask are the set's members, and two majorities share a server
+pub ones-are-members : (m : ℕ) → m < 2 ^ bits → ones m ≡ membersOf m
+ones-are-members = masks.ones-members
+
+pub majorities-meet : (p q : ℕ → Bool) (n : ℕ) → mostOf n (count n p) ≡ true → mostOf n (count n q) ≡ true → Both n p q
+majorities-meet = masks.majorities-meet
+
+-- what kind 7 finds passes, and nothing above it does
+pub found-passes : (c : Cluster) (s : Server) → 1 ≤ highestPassing c s → passes c s (highestPassing c s) ≡ true
+found-passes = passing.passing-passes
+
+pub nothing-above-passes : (c : Cluster) (s : Server) (n : ℕ) → highestPassing c s < n → n ≤ lengthOf (s .log) → passes c s n ≡ false
+nothing-above-passes = passing.passing-highest
+
+-- a start that is allowed gives the fresh cluster; an election and agreeing clocks change no more than their rows name
+pub a-start-is-fresh : (c : Cluster) (n : ℕ) → Clear (startRules n) → stepOf c (Start n) .cluster ≡ freshCluster n
+a-start-is-fresh = keeps.start-fresh
+
+pub an-election-changes-offices : (c : Cluster) (a m i : ℕ) → others.SameButOffice (serverAt c i) (serverAt (stepOf c (Elect a m) .cluster) i)
+an-election-changes-offices = others.elect-changes
+
+pub agreeing-changes-clocks : (c : Cluster) (i : ℕ) → others.SameButClock (serverAt c i) (serverAt (stepOf c ClocksAgree .cluster) i)
+agreeing-changes-clocks = others.agree-changes
+
+-- the test of a record and the facts that it stands for are one
+pub well-formed-is-good : (c : Cluster) → Fits c → wellFormed c ≡ true → Good c
+well-formed-is-good = facts.good
+
+pub good-is-well-formed : (c : Cluster) → Good c → wellFormed c ≡ true
+good-is-well-formed = facts.well-formed
+
+-- lines: a digit has one character, a number of two bytes its bytes, a frame its length; the table of masks says which bytes must be zero;
+-- a length keeps its value in an answer; what is read of an answer is in range
+pub a-digit-has-one-character : (c : ℕ) → digitOf c < radix → charOf (digitOf c) ≡ c
+a-digit-has-one-character = values.char-digit
+
+pub a-character-has-its-digit : (n : ℕ) → n < radix → digitOf (charOf n) ≡ n
+a-character-has-its-digit = values.digit-char
+
+pub a-number-is-its-bytes : (n : ℕ) → wordOf (highOf n) (lowOf n) ≡ n
+a-number-is-its-bytes = bytes.word-parts
+
+pub a-step-line-is-long : (s : Step) → length (writeStep s) ≡ chars * stepBytes
+a-step-line-is-long = step-lengths.step-line-length
+
+pub an-answer-line-is-long : (t : Telling) → length (writeTelling t) ≡ chars * answerBytes
+an-answer-line-is-long = answer-lengths.answer-line-length
+
+pub a-table-says-its-rule : (masks : List ℕ) → isTable masks ≡ true → (kind i : ℕ) → kind < kinds → i < stepBytes
+    → eqb (getD masks kind 0 / 2 ^ i % 2) 1 ≡ mustBeZero kind i
+a-table-says-its-rule = tables.table-says
+
+pub a-length-is-kept : (n : ℕ) → n ≤ limit → numberOf n ≡ n
+a-length-is-kept = numbers.number-kept
+
+pub what-is-read-fits : (line : List ℕ) (t : Telling) → readAnswer line ≡ T.Telling t → FitsTelling t
+what-is-read-fits = tellings.read-telling-fits
+
+-- demand 2's reason, as a run: build 41 is covered, build 40 is not and is rolled back, and 41 is kept
+pub the-roof-is-kept : Kept roof.moment roof.end 0 1
+the-roof-is-kept = roof.kept
+
+pub build-40-was-there : live (serverAt roof.between 0 .log) ≡ roof.build 1 41 0 ∷ roof.build 1 40 1 ∷ []
+build-40-was-there = roof.not-covered
+
+pub build-40-is-rolled-back : live (serverAt roof.end 0 .log) ≡ roof.build 1 41 0 ∷ roof.build 2 42 1 ∷ []
+build-40-is-rolled-back = roof.rolled-back
 
 -- ---- a contract decides its result
 

@@ -18,11 +18,11 @@ use Rattle.frames.specs.Layout.{bytesOfFrame}
 use Rattle.frames.specs.Steps.{writeStep}
 use Rattle.frames.proofs.Steps.{read-written-step}
 use Rattle.replay.specs.Texts.{lineFeed, lines, answerTo, recordAfter}
-use Rattle.safety.specs.Promise.{runOf, StepsFrom, momentOf, afterOf}
-use Rattle.demand3.specs.Promise.{Line, NoneBegins, Stretch, moment, later}
+use Rattle.safety.specs.Promise.{runOf, StepsFrom, momentOf}
+use Rattle.demand3.specs.Promise.{Line, NoneBegins, Stretch}
 use Rattle.demand3.proofs.Starts.{answer-is, answer-of}
 use Rattle.demand3.proofs.Written.{hex-line}
-use Rattle.demand3.specs.Promise.{AsText, EveryRun}
+use Rattle.demand3.specs.Promise.{EveryRun}
 
 -- the lines of steps, and their text
 abbrev linesOf : List Step → List Line

@@ -3,7 +3,6 @@ use mathlib.Core.Path.{_≡_, refl, sym, ap, _∙_, subst}
 use mathlib.Core.Bool.{Bool, true, false, cond, _&&_, true≢false}
 use mathlib.Core.List.{List, [], _∷_, _++_}
 use Prim.Native.Nat.{ℕ, zero, suc, _+_, _-_, _≤_, _<_}
-use native.Mathlib.Numerals.{add-one}
 use native.Mathlib.Omega.{arith}
 use borrow.Author.Tests.{lt-ltb, le-ltb, eq-eqb, ne-eqb, eqb-true, eqb-false, ltb-true}
 use lib.Dec.{ltb, eqb}
@@ -19,9 +18,7 @@ use Rattle.steps.specs.declared.Outcome.{Outcome}
 use Rattle.steps.specs.declared.Step.{Step as AnyStep}
 use Rattle.frames.specs.declared.ReadStep.{ReadStep}
 use Rattle.frames.specs.declared.ReadStep.the-variants.{Step, NoFrame}
-use Rattle.frames.specs.Layout.{stepBytes}
 use Rattle.frames.specs.Steps.{stepIn, readStep}
-use Rattle.replay.specs.declared.Came.{Came}
 use Rattle.replay.specs.declared.Came.the-variants.{Line, Character}
 use Rattle.replay.specs.declared.Next.{Next}
 use Rattle.replay.specs.declared.Reader.{Reader}

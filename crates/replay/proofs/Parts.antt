@@ -1,12 +1,10 @@
 -- A piece for which there is room: where every byte of it could be a line and its answer would fit, all of it is taken in one go.
 -- Assumes nothing.
-use mathlib.Core.Path.{_≡_, refl, sym, ap, _∙_}
-use mathlib.Core.Bool.{Bool, true, false, cond}
+use mathlib.Core.Path.{_≡_, refl, ap, _∙_}
 use mathlib.Core.List.{List, [], _∷_}
 use Prim.Native.Nat.{ℕ, suc, _≤_, _*_, _-_}
 use native.Mathlib.Omega.{arith}
 use borrow.Author.Tests.{le-ltb}
-use lib.Dec.{ltb}
 use lib.ListN.{length, take}
 use lib.Seq.{take-length}
 use Rattle.replay.specs.declared.Session.{Session}

@@ -1,11 +1,11 @@
 -- Whatever pieces a text arrives in, what is said is the answers to the text, and the record is the one that it leaves. Assumes nothing.
-use mathlib.Core.Path.{_≡_, refl, sym, ap, _∙_, subst}
+use mathlib.Core.Path.{_≡_, refl, sym, ap, _∙_}
 use mathlib.Core.Bool.{Bool, true, false, cond}
 use mathlib.Core.List.{List, [], _∷_, _++_, append-assoc, append-nil}
 use Prim.Native.Nat.{ℕ, suc, _+_, _-_, _≤_, _<_}
 use native.Mathlib.Numerals.{add-one}
 use native.Mathlib.Omega.{arith}
-use borrow.Author.Tests.{le-ltb, le-leb, ne-eqb, eqb-true, ltb-true, ltb-false}
+use borrow.Author.Tests.{le-leb, ne-eqb, eqb-true, ltb-true, ltb-false}
 use lib.Dec.{ltb, eqb}
 use lib.ListN.{length, take, set, length-append, length-set}
 use lib.Seq.{take-suc-set}
@@ -18,9 +18,8 @@ use Rattle.answers.proofs.Lengths.{answer-line-length}
 use Rattle.cluster.specs.declared.Cluster.{Cluster}
 use Rattle.replay.specs.declared.Reader.{Reader}
 use Rattle.replay.specs.declared.Session.{Session}
-use Rattle.replay.specs.declared.Fed.{Fed}
 use Rattle.replay.specs.Texts.{lineFeed, onLine, lines, answerTo, lineOf, answersTo, recordAfter, answers, leaves}
-use Rattle.replay.specs.Pieces.{kept, answerLine, tooLong, freshReader, begun, lineHeld, pushOf, after, said, runs, says, taking, isEmpty, ending, ended, fedOf, together, runsAll, saysAll}
+use Rattle.replay.specs.Pieces.{kept, answerLine, tooLong, freshReader, begun, lineHeld, pushOf, after, said, runs, says, isEmpty, ending, ended, together, runsAll, saysAll}
 
 -- bytes with no line feed among them
 pub data Plain : List ℕ → Type 0 where
@@ -152,11 +151,6 @@ any-pieces s xs =
     ap (λ (l : List ℕ). l ++ ending (runsAll (begun s) xs)) (says-all (begun s) xs)
     ∙ ap (λ (d : Session). says (begun s) (together xs) ++ ending d) (runs-all (begun s) xs) ∙ whole s (together xs)
 
--- with room for a line, a byte is taken
-pub progress : (s : Session) (b : ℕ) (text : List ℕ) (room : ℕ) → answerLine ≤ room → 0 < taking s (b ∷ text) room
-progress s b text room h =
-    subst (λ (t : Bool). 0 < cond t 0 (suc (taking (after s b) text (room - length (said s b))))) (sym (le-ltb room answerLine h)) (omega arith)
-
 pub line-long : (a : Answer) → length (lineOf a) ≡ answerLine
 unfolding lineOf
 line-long a = length-append (writeAnswer a) (lineFeed ∷ []) ∙ ap (λ (k : ℕ). k + 1) (answer-line-length (tellingOf a))
@@ -168,39 +162,6 @@ said-short s b = go (eqb b lineFeed)
     go : (x : Bool) → length (cond x (lineOf (answerTo (s .cluster) (lineHeld (s .reader)) .answer)) []) ≤ answerLine
     go true = omega (arith, line-long (answerTo (s .cluster) (lineHeld (s .reader)) .answer))
     go false = omega arith
-
--- no more is taken than there is, and no more is said than there is room for
-pub taken-fits : (s : Session) (text : List ℕ) (room : ℕ) → taking s text room ≤ length text
-taken-fits s [] room = omega arith
-taken-fits s (b ∷ text) room = go (ltb room answerLine) (taken-fits (after s b) text (room - length (said s b)))
-  where
-    go : (x : Bool) → taking (after s b) text (room - length (said s b)) ≤ length text
-        → cond x 0 (suc (taking (after s b) text (room - length (said s b)))) ≤ suc (length text)
-    go true h = omega arith
-    go false h = omega arith
-
-pub wrote-fits : (s : Session) (text : List ℕ) (room : ℕ) → length (says s (take (taking s text room) text)) ≤ room
-wrote-fits s [] room = omega arith
-wrote-fits s (b ∷ text) room = go (ltb room answerLine) refl (wrote-fits (after s b) text (room - length (said s b)))
-  where
-    n : ℕ
-    n = taking (after s b) text (room - length (said s b))
-
-    go : (x : Bool) → ltb room answerLine ≡ x → length (says (after s b) (take n text)) ≤ room - length (said s b) → length (says s (take (cond x 0 (suc n)) (b ∷ text))) ≤ room
-    go true e h = omega arith
-    go false e h = omega (arith, ltb-false room answerLine e, said-short s b, length-append (said s b) (says (after s b) (take n text)))
-
-pub record Within (r : Fed) (text : List ℕ) (room : ℕ) : Type 0 where
-  pub taken : r .taken ≤ length text
-  pub wrote : r .wrote ≤ room
-
-pub within : (s : Session) (text : List ℕ) (room : ℕ) (r : Fed) → r ≡ fedOf s text room → Within r text room
-unfolding fedOf
-within s text room r e =
-    record {
-      taken = subst (λ (k : ℕ). k ≤ length text) (sym (ap (λ (f : Fed). f .taken) e)) (taken-fits s text room);
-      wrote = subst (λ (k : ℕ). k ≤ room) (sym (ap (λ (f : Fed). f .wrote) e)) (wrote-fits s text room);
-    }
 
 -- ---- the record
 

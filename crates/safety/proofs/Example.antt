@@ -39,7 +39,7 @@ until = Elect 0 3 ∷ Writes 0 5 41 ∷ Pulls 1 0 ∷ Advances 0 ∷ []
 abbrev onwards : List Step
 onwards = Writes 0 5 40 ∷ Restarts 0 ∷ Start 1 ∷ Start 8 ∷ Writes 0 5 39 ∷ Elect 1 6 ∷ Writes 1 5 42 ∷ RollsBack 0 1 ∷ Advances 1 ∷ []
 
-abbrev build : ℕ → ℕ → ℕ → Entry
+abbrev pub build : ℕ → ℕ → ℕ → Entry
 build term value l = record { term = term; key = 5; value = value; time = record { p = 1; l = l } }
 
 -- the record at the moment, before the rollback, and at the end

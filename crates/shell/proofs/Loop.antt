@@ -20,7 +20,6 @@ use Rattle.replay.specs.Texts.{answers, leaves}
 use Rattle.replay.specs.Pieces.{answerLine, begun, runs, says, together, runsAll, saysAll, placed, fedOf, fedOut, ending, ended}
 use Rattle.replay.proofs.Whole.{any-pieces, any-pieces-record}
 use Rattle.replay.proofs.Parts.{fed-all, fed-all-out}
-use Rattle.shell.specs.declared.End.{End}
 use Rattle.shell.specs.declared.End.the-variants.{More, Input, CannotRead, CannotWrite}
 use Rattle.shell.specs.declared.Drained.{Drained}
 use Rattle.shell.specs.Loop.{endOf, given, mostTurns, Poured, Turned, Drains}

@@ -1,6 +1,5 @@
 -- `replay::feed` meets its contract. Assumes nothing.
 use Rattle.replay.specs.declared.Plan.{Plan}
-use Rattle.replay.specs.declared.Session.{Session}
 use Rattle.steps.specs.declared.Stepped.{Stepped}
 use Rattle.replay.specs.declared.Plan.the-variants.{Refuse, Server, Record}
 use Rattle.replay.proofs.Along.{Along, start, stopped, ended}

@@ -1,5 +1,5 @@
 -- `replay::take_next` meets its contract. Assumes nothing.
-use mathlib.Core.Path.{_≡_, sym, ap, _∙_}
+use mathlib.Core.Path.{sym, ap, _∙_}
 use Rattle.frames.specs.declared.ReadStep.{ReadStep}
 use Rattle.replay.specs.Pieces.{cameLine}
 use Rattle.replay.proofs.Ahead.{next-whole, next-feed, next-character}

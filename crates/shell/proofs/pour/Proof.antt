@@ -1,5 +1,5 @@
 -- `shell::pour` meets its contract: there is room for all, so `feed` takes all. Assumes nothing.
-use mathlib.Core.Bool.{Bool, true, false}
+use mathlib.Core.Bool.{true, false}
 use borrow.Author.Needs.{needs}
 use Rattle.shell.proofs.Loop.{poured}
 use Rattle.shell.proofs.pour.Statement.{statement}
