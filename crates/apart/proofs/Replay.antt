@@ -1,7 +1,7 @@
 -- What the definitions of reading a text give where a wrong program differs. Assumes nothing.
 use mathlib.Core.Path.{_≡_, refl}
 use mathlib.Core.Bool.{Bool, true, false}
-use mathlib.Core.List.{List, [], _∷_}
+use mathlib.Core.List.{List, [], _∷_, append-nil}
 use Prim.Native.Nat.{ℕ}
 use lib.ListN.{replicate}
 use Rattle.base.specs.Numbers.{every, count}
@@ -25,7 +25,7 @@ use Rattle.frames.specs.Kinds.{stepOfFrame, isClean}
 use Rattle.frames.specs.Steps.{writeStep, stepIn, readStep}
 use Rattle.replay.specs.declared.Reader.{Reader}
 use Rattle.replay.specs.declared.Plan.the-variants.{Refuse, Record}
-use Rattle.replay.specs.Texts.{lines, respond, answerTo, lineOf}
+use Rattle.replay.specs.Texts.{lines, respond, answerTo, lineOf, answers}
 use Rattle.replay.specs.Pieces.{freshReader, begun, lineHeld, pushOf, after, said, fedOf, isEmpty, finishOf}
 use Rattle.replay.specs.Plans.{placeOf, planOf}
 use Rattle.apart.proofs.Things.{holder, two, F2}
@@ -93,3 +93,8 @@ finish-answers-an-empty-rest = refl
 pub finish-keeps-the-reader : finishOf (record { cluster = F2; reader = pushOf freshReader 48 }) 19 .session .reader ≡ freshReader
 unfolding pushOf finishOf
 finish-keeps-the-reader = refl
+
+-- a text that is the one character x, 120, whose line has no line feed
+pub the-rest-is-answered : answers zeroCluster (120 ∷ []) ≡ lineOf (Refused NotAFrame)
+unfolding every digitOf allHex framed respond answerTo
+the-rest-is-answered = append-nil (lineOf (Refused NotAFrame))
