@@ -1,5 +1,6 @@
 -- The page of claims: whatever README and docs/DEMANDS.md say is proved, stated in full beside the theorem that has it. A theorem that
--- says less, or is gone, is refused here. The words that it is stated in are definitions of specs/. Assumes nothing.
+-- says less, or is gone, is refused here. The words that it is stated in are definitions of specs/, but for `found` and `Good`, which the
+-- claims about them decide, and the example's run. Assumes nothing.
 use contract.Lifetimes.{Lfts}
 use denote.Ref.{RefT, now}
 use mathlib.Core.Path.{_≡_}
@@ -23,13 +24,10 @@ use Rattle.log.specs.Logs.{live, lengthOf, joined}
 use Rattle.log.proofs.Common as common
 use Rattle.log.proofs.Equal as equal
 use Rattle.log.proofs.Latest as latest
-use Rattle.log.proofs.Latest.{found}
 use Rattle.cluster.specs.declared.Server.{Server}
 use Rattle.cluster.specs.Sets.{bits, membersOf, mostOf}
 use Rattle.cluster.proofs.Good as facts
-use Rattle.cluster.proofs.Good.{Good}
 use Rattle.cluster.proofs.Masks as masks
-use Rattle.base.proofs.Counting.{Both}
 use Rattle.steps.specs.declared.Step.the-variants.{Start, Elect, ClocksAgree}
 use Rattle.steps.specs.Answers.{numberOf}
 use Rattle.steps.proofs.Numbers as numbers
@@ -51,7 +49,7 @@ use Rattle.safety.specs.Promise.{Kept}
 use Rattle.safety.proofs.Example as roof
 use Rattle.cluster.specs.declared.Cluster.{Cluster}
 use Rattle.cluster.specs.Ranges.{Fits}
-use Rattle.cluster.specs.Servers.{serverAt, freshCluster, fewestServers, mostServers}
+use Rattle.cluster.specs.Servers.{withTerm, withPrimary, withWall, withHead, serverAt, freshCluster, fewestServers, mostServers}
 use Rattle.cluster.specs.WellFormed.{wellFormed}
 use Rattle.cluster.proofs.Fresh.{well-formed-fresh, fits-fresh}
 use Rattle.steps.specs.declared.Answer.{Answer}
@@ -303,21 +301,25 @@ pub a-rollback-gives-the-other-log : (a b : Log) → joined a b (commonBeginning
 a-rollback-gives-the-other-log = common.rolled-is
 
 -- a read gives the value of the last entry for the key
-pub latest-is-found : (key : ℕ) (es : List Entry) → latestValue key es ≡ entryAt es (found key es) .value
+pub latest-is-found : (key : ℕ) (es : List Entry) → latestValue key es ≡ entryAt es (latest.found key es) .value
 latest-is-found = latest.latest-found
 
-pub found-is-for-the-key : (key : ℕ) (es : List Entry) → 1 ≤ found key es → entryAt es (found key es) .key ≡ key
+pub found-is-in-the-log : (key : ℕ) (es : List Entry) → latest.found key es ≤ length es
+found-is-in-the-log = latest.found-le
+
+pub found-is-for-the-key : (key : ℕ) (es : List Entry) → 1 ≤ latest.found key es → entryAt es (latest.found key es) .key ≡ key
 found-is-for-the-key = latest.found-key
 
-pub none-for-the-key-after : (key : ℕ) (es : List Entry) (n : ℕ) → found key es < n → n ≤ length es → entryAt es n .key ≡ key → ⊥
+pub none-for-the-key-after : (key : ℕ) (es : List Entry) (n : ℕ) → latest.found key es < n → n ≤ length es → entryAt es n .key ≡ key → ⊥
 none-for-the-key-after = latest.found-last
 
 -- the ones of a mask are the set's members, and two majorities share a server
 pub ones-are-members : (m : ℕ) → m < 2 ^ bits → ones m ≡ membersOf m
 ones-are-members = masks.ones-members
 
-pub majorities-meet : (p q : ℕ → Bool) (n : ℕ) → mostOf n (count n p) ≡ true → mostOf n (count n q) ≡ true → Both n p q
-majorities-meet = masks.majorities-meet
+pub majorities-meet : (p q : ℕ → Bool) (n : ℕ) → mostOf n (count n p) ≡ true → mostOf n (count n q) ≡ true
+    → (i : ℕ) × (i < n) × (p i ≡ true) × (q i ≡ true)
+majorities-meet p q n h k = let b = masks.majorities-meet p q n h k in (b .who, b .below, b .left, b .right)
 
 -- what kind 7 finds passes, and nothing above it does
 pub found-passes : (c : Cluster) (s : Server) → 1 ≤ highestPassing c s → passes c s (highestPassing c s) ≡ true
@@ -330,17 +332,19 @@ nothing-above-passes = passing.passing-highest
 pub a-start-is-fresh : (c : Cluster) (n : ℕ) → Clear (startRules n) → stepOf c (Start n) .cluster ≡ freshCluster n
 a-start-is-fresh = keeps.start-fresh
 
-pub an-election-changes-offices : (c : Cluster) (a m i : ℕ) → others.SameButOffice (serverAt c i) (serverAt (stepOf c (Elect a m) .cluster) i)
+pub an-election-changes-offices : (c : Cluster) (a m i : ℕ) → let t = serverAt (stepOf c (Elect a m) .cluster) i in
+    t ≡ withHead (serverAt c i) (withPrimary (withTerm (serverAt c i .head) (t .head .term)) (t .head .primary))
 an-election-changes-offices = others.elect-changes
 
-pub agreeing-changes-clocks : (c : Cluster) (i : ℕ) → others.SameButClock (serverAt c i) (serverAt (stepOf c ClocksAgree .cluster) i)
+pub agreeing-changes-clocks : (c : Cluster) (i : ℕ) → let t = serverAt (stepOf c ClocksAgree .cluster) i in
+    t ≡ withHead (serverAt c i) (withWall (serverAt c i .head) (t .head .wall))
 agreeing-changes-clocks = others.agree-changes
 
 -- the test of a record and the facts that it stands for are one
-pub well-formed-is-good : (c : Cluster) → Fits c → wellFormed c ≡ true → Good c
+pub well-formed-is-good : (c : Cluster) → Fits c → wellFormed c ≡ true → facts.Good c
 well-formed-is-good = facts.good
 
-pub good-is-well-formed : (c : Cluster) → Good c → wellFormed c ≡ true
+pub good-is-well-formed : (c : Cluster) → facts.Good c → wellFormed c ≡ true
 good-is-well-formed = facts.well-formed
 
 -- lines: a digit has one character, a number of two bytes its bytes, a frame its length; the table of masks says which bytes must be zero;
