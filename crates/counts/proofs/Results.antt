@@ -3,14 +3,13 @@ use Prim.Native.Nat.{ℕ}
 use Rattle.base.proofs.Results.{OneResult, one-result}
 use Rattle.cluster.specs.declared.Cluster.{Cluster}
 use Rattle.cluster.specs.declared.Server.{Server}
-use Rattle.counts.specs.Acknowledged.{acknowledgedOf, hasEntry, holders, isAcknowledged}
+use Rattle.counts.specs.Acknowledged.{acknowledgedOf, holders, isAcknowledged}
 use Rattle.counts.specs.Advances.{advancesOf, backs, highestPassing}
 use Rattle.counts.proofs.advances.does_back.Reads as does-back-reads
 use Rattle.counts.proofs.advances.highest_passing.Reads as highest-passing-reads
 use Rattle.counts.proofs.advances.advances.Reads as advances-reads
 use Rattle.counts.proofs.acknowledged.holders_of.Reads as holders-of-reads
 use Rattle.counts.proofs.acknowledged.is_acknowledged.Reads as is-acknowledged-reads
-use Rattle.counts.proofs.acknowledged.has_entry.Reads as has-entry-reads
 use Rattle.counts.proofs.acknowledged.acknowledged.Reads as acknowledged-reads
 
 pub does-back : (s : Server) (n : ℕ) (t : Server) → OneResult (λ x. does-back-reads.Learnt tt (s, (n, (t, tt))) x (s, (n, (t, tt))))
@@ -27,9 +26,6 @@ holders-of c s n = one-result (holders c s n)
 
 pub is-acknowledged : (c : Cluster) (s : Server) (k n : ℕ) → OneResult (λ x. is-acknowledged-reads.Learnt tt (c, (s, (k, (n, tt)))) x (c, (s, (k, (n, tt)))))
 is-acknowledged c s k n = one-result (isAcknowledged c s k n)
-
-pub has-entry : (s : Server) (n term : ℕ) → OneResult (λ x. has-entry-reads.Learnt tt (s, (n, (term, tt))) x (s, (n, (term, tt))))
-has-entry s n term = one-result (hasEntry s n term)
 
 pub acknowledged : (c : Cluster) (a k n term : ℕ) → OneResult (λ x. acknowledged-reads.Learnt tt (c, (a, (k, (n, (term, tt))))) x (c, (a, (k, (n, (term, tt))))))
 acknowledged c a k n term = one-result (acknowledgedOf c a k n term)

@@ -1,11 +1,11 @@
 -- Kind 12: server a is asked about a position and a term, under a count. Assumes nothing.
 use mathlib.Core.List.{[], _∷_}
-use mathlib.Core.Bool.{Bool, cond, _&&_}
+use mathlib.Core.Bool.{Bool, cond}
 use Prim.Native.Nat.{ℕ}
 use lib.Dec.{eqb, ltb, leb}
 use Rattle.base.specs.Numbers.{count}
-use Rattle.log.specs.Entries.{entryAt, equalAt}
-use Rattle.log.specs.Logs.{live, lengthOf, highestPosition}
+use Rattle.log.specs.Entries.{entryAt, equalAt, hasEntry}
+use Rattle.log.specs.Logs.{mayAsk, live}
 use Rattle.cluster.specs.declared.Server.{Server}
 use Rattle.cluster.specs.declared.Cluster.{Cluster}
 use Rattle.cluster.specs.Servers.{serverCount, serverAt}
@@ -23,19 +23,13 @@ holders c s n = count (serverCount c) (λ i. equalAt (live (serverAt c i .log)) 
 unfoldable pub isAcknowledged : Cluster → Server → ℕ → ℕ → Bool
 isAcknowledged c s k n = cond (eqb k 0) (leb n (s .head .commit)) (leb k (holders c s n))
 
--- s's log has an entry of that term at that position
-unfoldable pub hasEntry : Server → ℕ → ℕ → Bool
-hasEntry s n term = leb n (lengthOf (s .log)) && eqb (entryAt (live (s .log)) n .term) term
-
 -- refusal 8 is considered only where 10 doesn't apply
 abbrev pub acknowledgeRules : Cluster → ℕ → ℕ → ℕ → ℕ → Rules
 acknowledgeRules c a k n term =
     (ltb a (serverCount c), OutOfRange)
     ∷ (leb k (serverCount c), OutOfRange)
-    ∷ (leb 1 n, OutOfRange)
-    ∷ (leb n highestPosition, OutOfRange)
-    ∷ (leb 1 term, OutOfRange)
-    ∷ (hasEntry (serverAt c a) n term, NoSuchEntry)
+    ∷ (mayAsk n term, OutOfRange)
+    ∷ (hasEntry (live (serverAt c a .log)) n term, NoSuchEntry)
     ∷ (isAcknowledged c (serverAt c a) k n, NotYet)
     ∷ []
 

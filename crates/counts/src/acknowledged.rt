@@ -1,6 +1,6 @@
 // Kind 12: server a is asked about a position and a term, under a count.
 ghost use mathlib.Core.Path.{_≡_};
-ghost use Rattle.counts.specs.Acknowledged.{holders, isAcknowledged, hasEntry, acknowledgedOf};
+ghost use Rattle.counts.specs.Acknowledged.{holders, isAcknowledged, acknowledgedOf};
 use cluster::Cluster;
 use cluster::Server;
 use steps::Answer;
@@ -36,18 +36,6 @@ pub fn is_acknowledged(c: Cluster, s: Server, k: usize, n: usize) -> bool
     k <= holders_of(c, s, n)
 }
 
-// Whether the server's log has an entry of that term at that position.
-pub fn has_entry(s: Server, n: usize, term: u16) -> bool
-    ensures { λ r. ⌜ r ≡ hasEntry s n term ⌝ }
-{
-    let g = s.log;
-    if log::length_of(g) < n {
-        return false;
-    }
-    let e = log::entry_at(g, n);
-    e.term == term
-}
-
 pub fn acknowledged(c: Cluster, a: usize, k: usize, n: usize, term: u16) -> Outcome
     ensures { λ r. ⌜ r ≡ acknowledgedOf c a k n term ⌝ }
 {
@@ -58,23 +46,17 @@ pub fn acknowledged(c: Cluster, a: usize, k: usize, n: usize, term: u16) -> Outc
     if size < k {
         return steps::refuse_all(c, Refusal::OutOfRange);
     }
-    if n < 1 {
-        return steps::refuse_all(c, Refusal::OutOfRange);
-    }
-    if log::HIGHEST_POSITION < n {
-        return steps::refuse_all(c, Refusal::OutOfRange);
-    }
-    if term < 1 {
+    if !log::may_ask(n, term) {
         return steps::refuse_all(c, Refusal::OutOfRange);
     }
     let s = c.servers[a];
-    if !has_entry(s, n, term) {
+    let g = s.log;
+    if !log::has_entry(g, n, term) {
         return steps::refuse_all(c, Refusal::NoSuchEntry);
     }
     if !is_acknowledged(c, s, k, n) {
         return steps::refuse_all(c, Refusal::NotYet);
     }
-    let g = s.log;
     let e = log::entry_at(g, n);
     let time = e.time;
     Outcome {

@@ -10,7 +10,7 @@ use Rattle.base.specs.Numbers.{every}
 use Rattle.base.proofs.Facts.{lt-or-le}
 use Rattle.clock.specs.declared.Time.{Time}
 use Rattle.steps.specs.declared.Step.{Step}
-use Rattle.steps.specs.declared.Step.the-variants.{Start, Elect, StepDown, Hears, Pulls, RollsBack, Writes, Advances, WallClock, Restarts, LocalRead, MajorityRead, Acknowledged, ClocksAgree}
+use Rattle.steps.specs.declared.Step.the-variants.{Start, Elect, StepDown, Hears, Pulls, RollsBack, Writes, Advances, WallClock, Restarts, LocalRead, MajorityRead, Acknowledged, ClocksAgree, WritesNothing, NewestRead}
 use Rattle.steps.specs.Ranges.{FitsFrame, FitsStep}
 use Rattle.hex.specs.Lines.{bytesOf, hexOf}
 use Rattle.hex.proofs.Trips.{Bytes, bytes-below}
@@ -47,6 +47,8 @@ written (LocalRead a key time) = (refl, refl)
 written (MajorityRead a key time) = (refl, refl)
 written (Acknowledged a count position term) = (refl, refl)
 written ClocksAgree = (refl, refl)
+written (WritesNothing a) = (refl, refl)
+written (NewestRead a key position term) = (refl, refl)
 
 -- what a frame of kind k makes: a step, whose frame is that frame with what the kind doesn't use put to zero
 Makes : Frame → Type 0
@@ -73,6 +75,8 @@ makes =
     ▸ (λ a b set key number term t. (MajorityRead a key t, (refl, refl, λ h. omega arith)))
     ▸ (λ a b set key number term t. (Acknowledged a set number term, (refl, refl, λ h. omega arith)))
     ▸ (λ a b set key number term t. (ClocksAgree, (refl, refl, λ h. omega arith)))
+    ▸ (λ a b set key number term t. (WritesNothing a, (refl, refl, λ h. omega arith)))
+    ▸ (λ a b set key number term t. (NewestRead a key number term, (refl, refl, λ h. omega arith)))
     ▸ tt)
 
 is-step : {s t : Step} → R.Step s ≡ R.Step t → s ≡ t

@@ -7,7 +7,7 @@ use lib.ListN.{getD}
 use Rattle.base.specs.Numbers.{byte, every}
 use Rattle.clock.specs.Times.{limit, zeroTime}
 use Rattle.steps.specs.declared.Frame.{Frame}
-use Rattle.steps.specs.declared.Step.the-variants.{Start, Elect, StepDown, Hears, Pulls, RollsBack, Writes, Advances, WallClock, Restarts, LocalRead, MajorityRead, Acknowledged, ClocksAgree}
+use Rattle.steps.specs.declared.Step.the-variants.{Start, Elect, StepDown, Hears, Pulls, RollsBack, Writes, Advances, WallClock, Restarts, LocalRead, MajorityRead, Acknowledged, ClocksAgree, WritesNothing, NewestRead}
 use Rattle.steps.specs.Fields.{fields, frameFor}
 use Rattle.words.specs.Words.{byteAt}
 use Rattle.frames.specs.declared.ReadStep.{ReadStep}
@@ -15,9 +15,9 @@ use Rattle.frames.specs.declared.ReadStep.the-variants as R
 use Rattle.frames.specs.Layout.{stepBytes, bytesOfFrame}
 
 abbrev pub kinds : ℕ
-kinds = 14
+kinds = 16
 
--- the step that each kind makes of the fields that it uses, from kind 0 to 13
+-- the step that each kind makes of the fields that it uses, from kind 0 to 15
 abbrev pub stepsOf : Frame → List ReadStep
 stepsOf f =
     R.Step (Start (f .a))
@@ -34,6 +34,8 @@ stepsOf f =
     ∷ R.Step (MajorityRead (f .a) (f .key) (f .time))
     ∷ R.Step (Acknowledged (f .a) (f .set) (f .number) (f .term))
     ∷ R.Step ClocksAgree
+    ∷ R.Step (WritesNothing (f .a))
+    ∷ R.Step (NewestRead (f .a) (f .key) (f .number) (f .term))
     ∷ []
 
 -- an unknown kind is no frame

@@ -54,6 +54,10 @@ const ACKNOWLEDGED: u8 = 12;
 
 const CLOCKS_AGREE: u8 = 13;
 
+const WRITES_NOTHING: u8 = 14;
+
+const NEWEST_READ: u8 = 15;
+
 fn frame_of(b: [u8; STEP_BYTES]) -> Frame
     ensures { λ r. ⌜ r ≡ frameOf b ⌝ }
 {
@@ -86,6 +90,8 @@ fn step_of(f: Frame) -> ReadStep
         MAJORITY_READ => ReadStep::Step(Step::MajorityRead(f.a, f.key, t)),
         ACKNOWLEDGED => ReadStep::Step(Step::Acknowledged(f.a, f.set, f.number, f.term)),
         CLOCKS_AGREE => ReadStep::Step(Step::ClocksAgree),
+        WRITES_NOTHING => ReadStep::Step(Step::WritesNothing(f.a)),
+        NEWEST_READ => ReadStep::Step(Step::NewestRead(f.a, f.key, f.number, f.term)),
         _ => ReadStep::NoFrame,
     }
 }
@@ -160,6 +166,17 @@ fn frame_for(s: Step) -> Frame
         Step::MajorityRead(a, key, time) => fields(MAJORITY_READ, a, 0, 0, key, 0, 0, time),
         Step::Acknowledged(a, n, at, term) => fields(ACKNOWLEDGED, a, 0, n, 0, at, term, ZERO_TIME),
         Step::ClocksAgree => fields(CLOCKS_AGREE, 0, 0, 0, 0, 0, 0, ZERO_TIME),
+        Step::WritesNothing(a) => fields(WRITES_NOTHING, a, 0, 0, 0, 0, 0, ZERO_TIME),
+        Step::NewestRead(a, key, at, term) => fields(
+            NEWEST_READ,
+            a,
+            0,
+            0,
+            key,
+            at,
+            term,
+            ZERO_TIME,
+        ),
     }
 }
 

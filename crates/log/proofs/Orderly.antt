@@ -2,12 +2,12 @@
 use mathlib.Core.Path.{_≡_, refl, ap, _∙_}
 use mathlib.Core.List.{List}
 use mathlib.Core.Bool.{true, _&&_, _||_}
-use mathlib.Core.Logic.{⊎-elim}
+use mathlib.Core.Logic.{_⊎_, inl, inr, ⊎-elim}
 use Prim.Native.Nat.{ℕ, zero, suc, _<_, _≤_}
 use native.Mathlib.Omega.{arith}
 use lib.Dec.{eqb, ltb, leb}
 use lib.ListN.{length, getD, List·getD-eq-default}
-use borrow.Author.Tests.{leb-true, le-leb, eqb-true, ltb-true, lt-ltb}
+use borrow.Author.Tests.{leb-true, le-leb, eqb-true, eq-eqb, ltb-true, lt-ltb}
 use Rattle.base.proofs.Bools.{and-both, and-left, and-right, or-left, or-right, or-cases}
 use Rattle.base.proofs.Every.{every-at, every-all}
 use Rattle.base.proofs.Facts.{lt-or-le}
@@ -16,17 +16,20 @@ use Rattle.log.specs.declared.Entry.{Entry}
 use Rattle.log.specs.declared.Log.{Log}
 use Rattle.log.specs.Entries.{zeroEntry, sameEntry, entryAt}
 use Rattle.log.specs.Logs.{logLimit, live}
-use Rattle.log.specs.Order.{highestKey, entryOk, follows, placeOk, inOrder, restZero, logOk}
+use Rattle.log.specs.Order.{highestKey, noKey, writesSome, entryOk, follows, placeOk, inOrder, restZero, logOk}
 use Rattle.log.proofs.Equal.{sameEntry-eq, sameEntry-refl}
 use Rattle.log.proofs.Tidy.{Tidy}
 
 -- ---- one entry
 
+-- it writes a value for a key, or nothing
+abbrev pub Writing : ℕ → ℕ → Type 0
+Writing key value = ((key ≤ highestKey) × (1 ≤ value)) ⊎ ((key ≡ noKey) × (value ≡ 0))
+
 pub record EntryGood (term : ℕ) (e : Entry) : Type 0 where
   pub from-one : 1 ≤ e .term
   pub not-above : e .term ≤ term
-  pub key : e .key ≤ highestKey
-  pub value : 1 ≤ e .value
+  pub writes : Writing (e .key) (e .value)
 
 pub entry-good : {term : ℕ} {e : Entry} → entryOk term e ≡ true → EntryGood term e
 unfolding entryOk
@@ -36,15 +39,18 @@ entry-good {term} {e} h =
     record {
       from-one = leb-true 1 (e .term) (and-left _ _ h);
       not-above = leb-true (e .term) term (and-left _ _ h2);
-      key = leb-true (e .key) highestKey (and-left _ _ h3);
-      value = leb-true 1 (e .value) (and-right (leb (e .key) highestKey) _ h3);
+      writes =
+          ⊎-elim (λ s. inl (leb-true _ _ (and-left _ _ s), leb-true _ _ (and-right (leb (e .key) highestKey) _ s)))
+          (λ s. inr (eqb-true _ _ (and-left _ _ s), eqb-true _ _ (and-right (eqb (e .key) noKey) _ s))) (or-cases (writesSome e) _ h3);
     }
 
 pub good-entry : {term : ℕ} {e : Entry} → EntryGood term e → entryOk term e ≡ true
 unfolding entryOk
 good-entry {term} {e} g =
     and-both _ _ (le-leb 1 (e .term) (g .from-one))
-    (and-both _ _ (le-leb (e .term) term (g .not-above)) (and-both _ _ (le-leb (e .key) highestKey (g .key)) (le-leb 1 (e .value) (g .value))))
+    (and-both _ _ (le-leb (e .term) term (g .not-above))
+    (⊎-elim (λ w. or-left _ _ (and-both _ _ (le-leb (e .key) highestKey (w .0)) (le-leb 1 (e .value) (w .1))))
+    (λ w. or-right (writesSome e) _ (and-both _ _ (eq-eqb (e .key) noKey (w .0)) (eq-eqb (e .value) 0 (w .1)))) (g .writes)))
 
 -- ---- the entries of a log
 

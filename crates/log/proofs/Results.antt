@@ -4,8 +4,8 @@ use lib.ListN.{take}
 use Rattle.base.proofs.Results.{OneResult, one-result}
 use Rattle.log.specs.declared.Entry.{Entry}
 use Rattle.log.specs.declared.Log.{Log}
-use Rattle.log.specs.Entries.{appliedTime, commonBeginning, entryAt, equalAt, isBeginning, lastTerm, latestValue, sameEntry, zeroEntry}
-use Rattle.log.specs.Logs.{appended, emptyLog, joined, lengthOf, live}
+use Rattle.log.specs.Entries.{appliedTime, commonBeginning, entryAt, equalAt, hasEntry, isBeginning, lastTerm, latestValue, sameEntry, zeroEntry}
+use Rattle.log.specs.Logs.{appended, emptyLog, joined, lengthOf, live, mayAsk}
 use Rattle.log.specs.Order.{entryOk, inOrder, logOk, placeOk, restZero}
 use Rattle.log.proofs.zero_entry.Reads as zero-entry-reads
 use Rattle.log.proofs.empty_log.Reads as empty-log-reads
@@ -16,6 +16,8 @@ use Rattle.log.proofs.last_term.Reads as last-term-reads
 use Rattle.log.proofs.time_at.Reads as time-at-reads
 use Rattle.log.proofs.applied_time.Reads as applied-time-reads
 use Rattle.log.proofs.equal_at.Reads as equal-at-reads
+use Rattle.log.proofs.has_entry.Reads as has-entry-reads
+use Rattle.log.proofs.may_ask.Reads as may-ask-reads
 use Rattle.log.proofs.common_beginning.Reads as common-beginning-reads
 use Rattle.log.proofs.is_beginning.Reads as is-beginning-reads
 use Rattle.log.proofs.append.Reads as append-reads
@@ -53,6 +55,12 @@ applied-time g = one-result (appliedTime (live g))
 
 pub equal-at : (a b : Log) (n : ℕ) → OneResult (λ x. equal-at-reads.Learnt tt (a, (b, (n, tt))) x (a, (b, (n, tt))))
 equal-at a b n = one-result (equalAt (live a) (live b) n)
+
+pub has-entry : (g : Log) (n term : ℕ) → OneResult (λ x. has-entry-reads.Learnt tt (g, (n, (term, tt))) x (g, (n, (term, tt))))
+has-entry g n term = one-result (hasEntry (live g) n term)
+
+pub may-ask : (n term : ℕ) → OneResult (λ x. may-ask-reads.Learnt tt (n, (term, tt)) x (n, (term, tt)))
+may-ask n term = one-result (mayAsk n term)
 
 pub common-beginning : (a b : Log) → OneResult (λ x. common-beginning-reads.Learnt tt (a, (b, tt)) x (a, (b, tt)))
 common-beginning a b = one-result (commonBeginning (live a) (live b))

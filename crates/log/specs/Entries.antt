@@ -33,6 +33,10 @@ appliedTime es = entryAt es (length es) .time
 unfoldable pub equalAt : List Entry → List Entry → ℕ → Bool
 equalAt xs ys n = leb 1 n && (leb n (length xs) && (leb n (length ys) && sameEntry (entryAt xs n) (entryAt ys n)))
 
+-- there is an entry of that term at position n
+unfoldable pub hasEntry : List Entry → ℕ → ℕ → Bool
+hasEntry es n term = leb n (length es) && eqb (entryAt es n .term) term
+
 -- the length of the longest common beginning
 unfoldable pub commonBeginning : List Entry → List Entry → ℕ
 commonBeginning [] ys = 0

@@ -1,8 +1,8 @@
 -- One log by value: its slots and its length, the entries that it holds, and what makes a log. Assumes nothing.
 use mathlib.Core.List.{List}
-use mathlib.Core.Bool.{cond}
+use mathlib.Core.Bool.{Bool, cond, _&&_}
 use Prim.Native.Nat.{ℕ, _+_}
-use lib.Dec.{ltb}
+use lib.Dec.{ltb, leb}
 use lib.ListN.{length, take, set, replicate}
 use Rattle.base.specs.Lists.{joinedAt}
 use Rattle.log.specs.declared.Entry.{Entry}
@@ -16,6 +16,10 @@ logLimit = 32
 -- positions that can be asked for go to 32
 abbrev pub highestPosition : ℕ
 highestPosition = 32
+
+-- a position and a term by which an entry may be asked for
+unfoldable pub mayAsk : ℕ → ℕ → Bool
+mayAsk n term = leb 1 n && (leb n highestPosition && leb 1 term)
 
 abbrev pub emptyLog : Log
 emptyLog = record { entries = replicate logLimit zeroEntry; len = 0 }

@@ -15,9 +15,20 @@ use Rattle.log.specs.Logs.{logLimit, live}
 abbrev pub highestKey : ℕ
 highestKey = 15
 
+-- the key of an entry that writes nothing; keys between are never used
+abbrev pub noKey : ℕ
+noKey = 255
+
+-- an entry writes a value of at least 1 for a key, or it has key 255 and value 0, and writes nothing
+abbrev pub writesSome : Entry → Bool
+writesSome e = leb (e .key) highestKey && leb 1 (e .value)
+
+abbrev pub writesNone : Entry → Bool
+writesNone e = eqb (e .key) noKey && eqb (e .value) 0
+
 -- an entry's term is at least 1 and never exceeds the server's term; its key and value are in range
 unfoldable pub entryOk : ℕ → Entry → Bool
-entryOk term e = leb 1 (e .term) && (leb (e .term) term && (leb (e .key) highestKey && leb 1 (e .value)))
+entryOk term e = leb 1 (e .term) && (leb (e .term) term && (writesSome e || writesNone e))
 
 -- from d to the next entry e, terms never fall and times rise strictly
 unfoldable pub follows : Entry → Entry → Bool

@@ -1,8 +1,8 @@
 // Entries, and one log by value: an entry array beside its length, slots past the length zero.
 ghost use mathlib.Core.Path.{_≡_};
 ghost use lib.ListN.{take};
-ghost use Rattle.log.specs.Entries.{zeroEntry, sameEntry, entryAt, lastTerm, appliedTime, commonBeginning, isBeginning, equalAt, latestValue};
-ghost use Rattle.log.specs.Logs.{emptyLog, live, lengthOf, appended, joined};
+ghost use Rattle.log.specs.Entries.{zeroEntry, sameEntry, entryAt, lastTerm, appliedTime, commonBeginning, isBeginning, equalAt, hasEntry, latestValue};
+ghost use Rattle.log.specs.Logs.{mayAsk, emptyLog, live, lengthOf, appended, joined};
 ghost use Rattle.log.specs.Order.{entryOk, placeOk, inOrder, restZero, logOk};
 use clock::Time;
 
@@ -25,6 +25,9 @@ pub const LOG_LIMIT: usize = 32;
 pub const HIGHEST_POSITION: usize = 32;
 
 pub const HIGHEST_KEY: u8 = 15;
+
+// The key of an entry that writes nothing.
+pub const NO_KEY: u8 = 255;
 
 pub const ZERO_ENTRY: Entry = Entry {
     term: 0,
@@ -134,6 +137,30 @@ pub fn equal_at(a: Log, b: Log, n: usize) -> bool
     same_entry(d, e)
 }
 
+// Whether the log has an entry of that term at position n.
+pub fn has_entry(g: Log, n: usize, term: u16) -> bool
+    ensures { λ r. ⌜ r ≡ hasEntry (live g) n term ⌝ }
+{
+    if length_of(g) < n {
+        return false;
+    }
+    let e = entry_at(g, n);
+    e.term == term
+}
+
+// Whether an entry may be asked for by this position and this term.
+pub fn may_ask(n: usize, term: u16) -> bool
+    ensures { λ r. ⌜ r ≡ mayAsk n term ⌝ }
+{
+    if n < 1 {
+        return false;
+    }
+    if HIGHEST_POSITION < n {
+        return false;
+    }
+    1 <= term
+}
+
 // How long the longest common beginning of both logs is.
 pub fn common_beginning(a: Log, b: Log) -> usize
     ensures { λ r. ⌜ r ≡ commonBeginning (live a) (live b) ⌝ }
@@ -229,10 +256,13 @@ pub fn entry_ok(term: u16, e: Entry) -> bool
     if term < e.term {
         return false;
     }
-    if HIGHEST_KEY < e.key {
+    if e.key <= HIGHEST_KEY {
+        return 1 <= e.value;
+    }
+    if e.key != NO_KEY {
         return false;
     }
-    1 <= e.value
+    e.value == 0
 }
 
 // Whether entry e may stand right after the first i, the last of which is d.

@@ -1,7 +1,7 @@
 -- Every step that fits keeps what the types give and well-formedness, from every well-formed record, reached or not. Assumes nothing.
 use mathlib.Core.Path.{_≡_, refl, ap}
 use mathlib.Core.Bool.{Bool, true, false, not, _||_}
-use mathlib.Core.Logic.{⊎-elim}
+use mathlib.Core.Logic.{inl, inr, ⊎-elim}
 use Prim.Native.Nat.{ℕ, _<_, _≤_}
 use native.Mathlib.Omega.{arith}
 use lib.Dec.{eqb, ltb}
@@ -12,6 +12,7 @@ use Rattle.base.proofs.Greatest.{greatest-above, greatest-below}
 use Rattle.base.proofs.Highest.{highest-le}
 use Rattle.clock.specs.Times.{limit}
 use Rattle.log.specs.Logs.{lengthOf}
+use Rattle.log.specs.Order.{noKey}
 use Rattle.cluster.specs.declared.Server.{Server}
 use Rattle.cluster.specs.declared.Cluster.{Cluster}
 use Rattle.cluster.specs.Ranges.{Fits}
@@ -23,7 +24,7 @@ use Rattle.cluster.proofs.Good.{Good, good, well-formed}
 use Rattle.cluster.proofs.Masks.{within-member}
 use Rattle.steps.specs.declared.Outcome.{Outcome}
 use Rattle.steps.specs.declared.Step.{Step}
-use Rattle.steps.specs.declared.Step.the-variants.{Start, Elect, StepDown, Hears, Pulls, RollsBack, Writes, Advances, WallClock, Restarts, LocalRead, MajorityRead, Acknowledged, ClocksAgree}
+use Rattle.steps.specs.declared.Step.the-variants.{Start, Elect, StepDown, Hears, Pulls, RollsBack, Writes, Advances, WallClock, Restarts, LocalRead, MajorityRead, Acknowledged, ClocksAgree, WritesNothing, NewestRead}
 use Rattle.base.specs.Numbers.{byte}
 use Rattle.steps.specs.Ranges.{FitsStep}
 use Rattle.steps.specs.Reasons.{Clear}
@@ -34,7 +35,7 @@ use Rattle.wholes.specs.ClocksAgree.{greatestClock}
 use Rattle.rules.specs.Rules.{rowOf, rulesOf, doneOf, isStart, stepOf}
 use Rattle.rules.proofs.Outcomes.{step-done, StepDone, step-cases}
 use Rattle.rules.proofs.Others.{voted-inside, voted-outside, clocked-counted, clocked-past}
-use Rattle.rules.proofs.Servers.{ServerSound, down-sound, wall-sound, restarted-sound, committed-sound, voted-sound, heard-sound, pulled-sound, rolled-sound, wrote-sound}
+use Rattle.rules.proofs.Servers.{ServerSound, down-sound, wall-sound, restarted-sound, committed-sound, voted-sound, heard-sound, pulled-sound, rolled-sound, appended-sound}
 use Rattle.rules.proofs.Records.{Sound, counted-sound, replaced-sound, changed-sound}
 
 -- ---- what is done keeps the record
@@ -114,7 +115,7 @@ done-sound c (StepDown a) h f k = put (h refl) a _ (k .0) down-sound
 done-sound c (Hears a b) h f k = put (h refl) a _ (k .0) (λ x. heard-sound x (at (h refl) b (k .1 .0)))
 done-sound c (Pulls a b) h f k = put (h refl) a _ (k .0) (λ x. pulled-sound x (at (h refl) b (k .1 .0)) (k .1 .1 .1))
 done-sound c (RollsBack a b) h f k = put (h refl) a _ (k .0) (λ x. rolled-sound x (at (h refl) b (k .1 .0)) (k .1 .1 .1))
-done-sound c (Writes a key value) h f k = put (h refl) a _ (k .0) (λ x. wrote-sound x key value (f .number) (k .1))
+done-sound c (Writes a key value) h f k = put (h refl) a _ (k .0) (λ x. appended-sound x key value (f .key) (f .number) (inl (leb-true _ _ (k .1 .0), leb-true _ _ (k .1 .1 .0))) (k .1 .1 .1))
 done-sound c (Advances a) h f k = advanced-sound (h refl) a (k .0)
 done-sound c (WallClock a) h f k = put (h refl) a _ (k .0) (λ x. wall-sound x _ (omega arith) (omega (arith, ltb-true (serverAt c a .head .wall) limit (k .1 .0))))
 done-sound c (Restarts a) h f k = put (h refl) a _ (k .0) restarted-sound
@@ -122,6 +123,8 @@ done-sound c (LocalRead a key asked) h f k = put (h refl) a _ (k .0) (λ x. x)
 done-sound c (MajorityRead a key asked) h f k = put (h refl) a _ (k .0) (λ x. x)
 done-sound c (Acknowledged a n position term) h f k = h refl
 done-sound c ClocksAgree h f k = agreed-sound (h refl)
+done-sound c (WritesNothing a) h f k = put (h refl) a _ (k .0) (λ x. appended-sound x noKey 0 (omega arith) (omega arith) (inr (refl, refl)) (k .1))
+done-sound c (NewestRead a key n term) h f k = put (h refl) a _ (k .0) (λ x. x)
 
 -- ---- every step keeps it
 

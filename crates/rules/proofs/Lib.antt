@@ -10,4 +10,4 @@ pub mod Keeps
 pub mod Parts
 pub mod Results
 pub mod Shut
-pub mod Lowest
+pub mod Ranks

@@ -23,7 +23,7 @@ use Rattle.log.proofs.Tidy.{tidy-length, live-appended, tidy-appended, live-joi
 -- ---- a greater term
 
 entry-raised : {t u : ℕ} {e : Entry} → t ≤ u → EntryGood t e → EntryGood u e
-entry-raised h g = record { from-one = g .from-one; not-above = omega arith; key = g .key; value = g .value }
+entry-raised h g = record { from-one = g .from-one; not-above = omega arith; writes = g .writes }
 
 orderly-raised : {t u : ℕ} {es : List Entry} → t ≤ u → Orderly t es → Orderly u es
 orderly-raised h o = record { each = λ n p l. entry-raised h (o .each n p l); terms = o .terms; times = o .times }

@@ -18,7 +18,7 @@ use Rattle.cluster.specs.Servers.{withTerm, withPrimary, withWall, withHead, pa
 use Rattle.cluster.specs.Sets.{member}
 use Rattle.cluster.proofs.Changed.{replaced-others, changed-at}
 use Rattle.steps.specs.declared.Step.{Step}
-use Rattle.steps.specs.declared.Step.the-variants.{Start, Elect, StepDown, Hears, Pulls, RollsBack, Writes, Advances, WallClock, Restarts, LocalRead, MajorityRead, Acknowledged, ClocksAgree}
+use Rattle.steps.specs.declared.Step.the-variants.{Start, Elect, StepDown, Hears, Pulls, RollsBack, Writes, Advances, WallClock, Restarts, LocalRead, MajorityRead, Acknowledged, ClocksAgree, WritesNothing, NewestRead}
 use Rattle.wholes.specs.Elects.{newTerm}
 use Rattle.wholes.specs.ClocksAgree.{greatestClock}
 use Rattle.rules.specs.Rules.{rowOf, doneOf, isStart, stepOf}
@@ -103,6 +103,8 @@ done-others c (Restarts a) i e = replaced-others c a _ i (eqb-false i a e)
 done-others c (LocalRead a key asked) i e = ap (λ (d : Cluster). serverAt d i) (put-same c a)
 done-others c (MajorityRead a key asked) i e = ap (λ (d : Cluster). serverAt d i) (put-same c a)
 done-others c (Acknowledged a k n term) i e = refl
+done-others c (WritesNothing a) i e = replaced-others c a _ i (eqb-false i a e)
+done-others c (NewestRead a key n term) i e = ap (λ (d : Cluster). serverAt d i) (put-same c a)
 done-others c ClocksAgree i e =
     changed-by Same (λ s. refl) (clockedOf (c .count) (greatestClock c)) c i (clocked-past (c .count) (greatestClock c) i (serverAt c i) e)
 
@@ -125,6 +127,8 @@ done-count c (LocalRead a key asked) e = refl
 done-count c (MajorityRead a key asked) e = refl
 done-count c (Acknowledged a k n term) e = refl
 done-count c ClocksAgree e = refl
+done-count c (WritesNothing a) e = refl
+done-count c (NewestRead a key n term) e = refl
 
 pub count-unchanged : (c : Cluster) (s : Step) → isStart s ≡ false → stepOf c s .cluster .count ≡ c .count
 count-unchanged c s e = ⊎-elim (λ d. rw (d .is) (done-count c s e)) (λ d. rw (d .is)) (step-cases c s)

@@ -11,7 +11,7 @@ use Rattle.steps.specs.declared.Outcome.{Outcome}
 use Rattle.steps.specs.declared.Stepped.{Stepped}
 use Rattle.steps.specs.declared.Answer.the-variants.{Refused}
 use Rattle.steps.specs.declared.Refusal.the-variants.{OutOfRange}
-use Rattle.steps.specs.declared.Step.the-variants.{StepDown, Hears, Pulls, RollsBack, Writes, WallClock, Restarts, LocalRead, MajorityRead}
+use Rattle.steps.specs.declared.Step.the-variants.{StepDown, Hears, Pulls, RollsBack, Writes, WallClock, Restarts, LocalRead, MajorityRead, WritesNothing, NewestRead}
 use Rattle.steps.specs.Refusals.{Rules, decided}
 use Rattle.steps.specs.Answers.{refusing, refusingAll}
 use Rattle.steps.proofs.Decided.{decided-map}
@@ -19,9 +19,12 @@ use Rattle.pairs.specs.Pulls.{pullRules, pullDone}
 use Rattle.pairs.specs.RollsBack.{rollRules, rollDone}
 use Rattle.singles.specs.StepsDown.{downRules, downDone}
 use Rattle.singles.specs.WallClock.{clockRules, clockDone}
-use Rattle.singles.specs.Writes.{writeRules, writeDone}
+use Rattle.singles.specs.Appends.{appendRules, appendDone}
+use Rattle.singles.specs.Writes.{writeRules}
+use Rattle.singles.specs.WritesNothing.{nothingDone}
 use Rattle.singles.specs.LocalRead.{localRules, localDone}
 use Rattle.singles.specs.MajorityRead.{majorityRules, majorityDone}
+use Rattle.singles.specs.NewestRead.{newestRules, newestDone}
 use Rattle.rules.specs.Rules.{rowOf, bothInRange, putBack, coreOf}
 use Rattle.rules.specs.One.{oneOf, singleOf, pairOf}
 use Rattle.rules.proofs.Others.{put-same}
@@ -43,7 +46,11 @@ module _ (c : Cluster) (a : ℕ) where
 
   pub core-writes : (key value : ℕ) → singleOf c a (Writes a key value) ≡ coreOf c (Writes a key value)
   unfolding singleOf oneOf coreOf rowOf
-  core-writes key value = in-place _ _ (placed c a (writeDone (serverAt c a) key value) (writeRules (serverAt c a) key value))
+  core-writes key value = in-place _ _ (placed c a (appendDone (serverAt c a) key value) (writeRules (serverAt c a) key value))
+
+  pub core-nothing : singleOf c a (WritesNothing a) ≡ coreOf c (WritesNothing a)
+  unfolding singleOf oneOf coreOf rowOf
+  core-nothing = in-place _ _ (placed c a (nothingDone (serverAt c a)) (appendRules (serverAt c a)))
 
   pub core-clock : singleOf c a (WallClock a) ≡ coreOf c (WallClock a)
   unfolding singleOf oneOf coreOf rowOf
@@ -60,6 +67,10 @@ module _ (c : Cluster) (a : ℕ) where
   pub core-majority : (key : ℕ) (asked : Time) → singleOf c a (MajorityRead a key asked) ≡ coreOf c (MajorityRead a key asked)
   unfolding singleOf oneOf coreOf rowOf
   core-majority key asked = in-place _ _ (placed c a (majorityDone (serverAt c a) key) (majorityRules (serverAt c a) key asked))
+
+  pub core-newest : (key n term : ℕ) → singleOf c a (NewestRead a key n term) ≡ coreOf c (NewestRead a key n term)
+  unfolding singleOf oneOf coreOf rowOf
+  core-newest key n term = in-place _ _ (placed c a (newestDone (serverAt c a) key n) (newestRules (serverAt c a) key n term))
 
   module _ (b : ℕ) where
     apart-place : (x y : Outcome) → x ≡ y → decided (refusingAll c) x (bothInRange c a b []) ≡ decided (refusingAll c) y (bothInRange c a b [])

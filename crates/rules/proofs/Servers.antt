@@ -9,6 +9,7 @@ use lib.Dec.{eqb, ltb}
 use lib.ListN.{length}
 use borrow.Author.Tests.{ltb-true, leb-true, eqb-true}
 use Rattle.base.proofs.Bools.{and-left, and-right, or-cases, not-both}
+use Rattle.base.specs.Numbers.{byte}
 use Rattle.clock.specs.declared.Time.{Time}
 use Rattle.clock.specs.declared.Ticked.{Ticked}
 use Rattle.clock.specs.declared.Ticked.the-variants.{To, AtLimit}
@@ -20,11 +21,10 @@ use Rattle.log.specs.declared.Entry.{Entry}
 use Rattle.log.specs.declared.Log.{Log}
 use Rattle.log.specs.Entries.{entryAt, appliedTime, equalAt}
 use Rattle.log.specs.Logs.{logLimit, live, lengthOf, appended, joined}
-use Rattle.log.specs.Order.{highestKey}
 use Rattle.log.specs.Ranges.{FitsEntry, FitsLog}
 use Rattle.log.proofs.Common.{common-le, rolled-is}
 use Rattle.log.proofs.Equal.{equal-at}
-use Rattle.log.proofs.Orderly.{EntryGood, LogGood}
+use Rattle.log.proofs.Orderly.{Writing, EntryGood, LogGood}
 use Rattle.log.proofs.Positions.{length-more, last-more, last-joined}
 use Rattle.log.proofs.Tidy.{tidy-length, live-appended, tidy-appended, live-joined}
 use Rattle.cluster.specs.declared.Head.{Head}
@@ -38,7 +38,7 @@ use Rattle.pairs.specs.Hears.{takesCommit, heardOf}
 use Rattle.pairs.specs.Pulls.{pullRules, tookOf, pulledOf}
 use Rattle.pairs.specs.RollsBack.{common, rollRules, rolledOf}
 use Rattle.singles.specs.Restarts.{restartedOf}
-use Rattle.singles.specs.Writes.{ticks, tickTime, writeRules, newEntry, wroteOf}
+use Rattle.singles.specs.Appends.{ticks, tickTime, appendRules, newEntry, stampedOf}
 use Rattle.counts.specs.Advances.{committedOf}
 use Rattle.rules.proofs.Others.{officeOf, wallOf}
 use Rattle.rules.proofs.Logs.{log-raised, appended-good, joined-good}
@@ -152,17 +152,17 @@ module _ {s t : Server} (h : ServerSound s) (k : ServerSound t) where
       (took-sound (t .log) (log-raised (omega arith) (k .good .log)) (k .fits .log) refl
       (omega (arith, common-le (live (s .log)) (live (t .log)) .1, tidy-length (k .good .log .tidy))) (k .good .commit-point))
 
--- ---- a write
+-- ---- an entry that is appended
 
 ticked-to : (k : Ticked) → ticks k ≡ true → k ≡ To (tickTime k)
 ticked-to (To t) e = refl
 ticked-to AtLimit e = not-both false e refl
 
-module _ {s : Server} (h : ServerSound s) (key value : ℕ) (small : value ≤ limit) (c : Clear (writeRules s key value)) where
+module _ {s : Server} (h : ServerSound s) (key value : ℕ) (kept : key < byte) (small : value ≤ limit) (w : Writing key value) (c : Clear (appendRules s)) where
   -- the new time is after the cluster time, which is not before the applied time
-  wrote-at : (u : Time) → tickOf (s .head .wall) (s .head .time) ≡ To u → ServerSound (wroteOf s key value u)
-  unfolding wroteOf
-  wrote-at u tick =
+  stamped-at : (u : Time) → tickOf (s .head .wall) (s .head .time) ≡ To u → ServerSound (stampedOf s key value u)
+  unfolding stampedOf
+  stamped-at u tick =
       record {
         fits = fits-log (fits-head (h .fits) (record { term = h .fits .head .term; commit = h .fits .head .commit; wall = h .fits .head .wall; time = time-fits })) (fits-appended (h .fits .log) entry-fits);
         good = record {
@@ -175,19 +175,16 @@ module _ {s : Server} (h : ServerSound s) (key value : ℕ) (small : value ≤ l
       }
     where
       room : s .log .len < logLimit
-      room = omega (arith, ltb-true (lengthOf (s .log)) logLimit (c .1 .1 .1 .0), tidy-length (h .good .log .tidy))
+      room = omega (arith, ltb-true (lengthOf (s .log)) logLimit (c .1 .0), tidy-length (h .good .log .tidy))
 
       time-fits : FitsTime u
       time-fits = fits-tick (s .head .wall) (s .head .time) u (h .fits .head .wall) (h .fits .head .time) tick
 
-      keyed : key ≤ highestKey
-      keyed = leb-true _ _ (c .0)
-
       entry-fits : FitsEntry (newEntry s key value u)
-      entry-fits = record { term = h .fits .head .term; key = omega (arith, keyed); value = small; time = time-fits }
+      entry-fits = record { term = h .fits .head .term; key = kept; value = small; time = time-fits }
 
       entry-good : EntryGood (s .head .term) (newEntry s key value u)
-      entry-good = record { from-one = h .good .primary-term (c .1 .1 .0); not-above = omega arith; key = keyed; value = leb-true 1 value (c .1 .0) }
+      entry-good = record { from-one = h .good .primary-term (c .0); not-above = omega arith; writes = w }
 
       live-is : live (appended (s .log) (newEntry s key value u)) ≡ live (s .log) ++ (newEntry s key value u ∷ [])
       live-is = live-appended (h .good .log .tidy) (newEntry s key value u) room
@@ -205,5 +202,5 @@ module _ {s : Server} (h : ServerSound s) (key value : ℕ) (small : value ≤ l
             length-more (live (s .log)) (newEntry s key value u),
           )
 
-  pub wrote-sound : ServerSound (wroteOf s key value (tickTime (tickOf (s .head .wall) (s .head .time))))
-  wrote-sound = wrote-at _ (ticked-to (tickOf (s .head .wall) (s .head .time)) (c .1 .1 .1 .1 .0))
+  pub appended-sound : ServerSound (stampedOf s key value (tickTime (tickOf (s .head .wall) (s .head .time))))
+  appended-sound = stamped-at _ (ticked-to (tickOf (s .head .wall) (s .head .time)) (c .1 .1 .0))

@@ -26,7 +26,7 @@ use Rattle.steps.specs.declared.Step.the-variants.{Elect, Writes, LocalRead}
 use Rattle.steps.specs.declared.Telling.{Telling}
 use Rattle.steps.specs.declared.Telling.the-variants as T
 use Rattle.steps.specs.Answers.{tellingOf}
-use Rattle.singles.specs.Writes.{wroteOf}
+use Rattle.singles.specs.Appends.{stampedOf}
 use Rattle.wholes.specs.Elects.{notBehind, mayVote, allMayVote}
 use Rattle.rules.specs.Rules.{rowOf, coreOf, stepOf}
 use Rattle.rules.proofs.Outcomes.{isRefused}
@@ -63,7 +63,7 @@ record Runs : Type 0 where
   reads-none : stepOf written (reading 6) .answer ≡ A.Value 0 written-at
 
 runs : Runs
-unfolding every count highest eachFrom isBefore sameTime tickOf sameEntry entryAt latestValue appended entryOk follows placeOk inOrder restZero logOk startedOf votedOf member isWithin numbersOk countedOk zeroOk serverOk wellFormed wroteOf notBehind mayVote allMayVote rowOf coreOf stepOf
+unfolding every count highest eachFrom isBefore sameTime tickOf sameEntry entryAt latestValue appended entryOk follows placeOk inOrder restZero logOk startedOf votedOf member isWithin numbersOk countedOk zeroOk serverOk wellFormed stampedOf notBehind mayVote allMayVote rowOf coreOf stepOf
 runs =
     record {
       well-formed = refl;

@@ -5,7 +5,7 @@ use Prim.Native.Nat.{ℕ}
 use Rattle.cluster.specs.declared.Cluster.{Cluster}
 use Rattle.cluster.specs.declared.Server.{Server}
 use Rattle.steps.specs.declared.Step.{Step}
-use Rattle.steps.specs.declared.Step.the-variants.{Start, Elect, StepDown, Hears, Pulls, RollsBack, Writes, Advances, WallClock, Restarts, LocalRead, MajorityRead, Acknowledged, ClocksAgree}
+use Rattle.steps.specs.declared.Step.the-variants.{Start, Elect, StepDown, Hears, Pulls, RollsBack, Writes, Advances, WallClock, Restarts, LocalRead, MajorityRead, Acknowledged, ClocksAgree, WritesNothing, NewestRead}
 use Rattle.steps.specs.declared.Stepped.{Stepped}
 use Rattle.steps.specs.declared.Outcome.{Outcome}
 use Rattle.steps.specs.declared.Answer.the-variants.{Done}
@@ -20,8 +20,10 @@ use Rattle.singles.specs.StepsDown.{stepsDownOf}
 use Rattle.singles.specs.WallClock.{wallClockOf}
 use Rattle.singles.specs.Restarts.{restartsOf}
 use Rattle.singles.specs.Writes.{writesOf}
+use Rattle.singles.specs.WritesNothing.{writesNothingOf}
 use Rattle.singles.specs.LocalRead.{localReadOf}
 use Rattle.singles.specs.MajorityRead.{majorityReadOf}
+use Rattle.singles.specs.NewestRead.{newestReadOf}
 
 -- a step of the whole cluster leaves a server as it is
 abbrev pub untouchedOf : Server → Stepped
@@ -42,6 +44,8 @@ oneOf s t (LocalRead a key asked) = localReadOf s key asked
 oneOf s t (MajorityRead a key asked) = majorityReadOf s key asked
 oneOf s t (Acknowledged a k n term) = untouchedOf s
 oneOf s t ClocksAgree = untouchedOf s
+oneOf s t (WritesNothing a) = writesNothingOf s
+oneOf s t (NewestRead a key n term) = newestReadOf s key n term
 
 -- server a of the record takes the step, alone
 unfoldable pub singleOf : Cluster → ℕ → Step → Outcome

@@ -1,4 +1,4 @@
--- 01's table of steps: for each kind its rules in order, what it gives where none is broken, and the step over any record. Assumes nothing.
+-- 01's table of steps with 02's: for each kind its rules in order, what it gives where none is broken, and the step over any record. Assumes nothing.
 use mathlib.Core.List.{[], _∷_}
 use mathlib.Core.Bool.{Bool, cond, not, _||_}
 use Prim.Native.Nat.{ℕ}
@@ -7,7 +7,7 @@ use Rattle.cluster.specs.declared.Cluster.{Cluster}
 use Rattle.cluster.specs.Servers.{serverCount, serverAt, withServer}
 use Rattle.cluster.specs.WellFormed.{wellFormed}
 use Rattle.steps.specs.declared.Step.{Step}
-use Rattle.steps.specs.declared.Step.the-variants.{Start, Elect, StepDown, Hears, Pulls, RollsBack, Writes, Advances, WallClock, Restarts, LocalRead, MajorityRead, Acknowledged, ClocksAgree}
+use Rattle.steps.specs.declared.Step.the-variants.{Start, Elect, StepDown, Hears, Pulls, RollsBack, Writes, Advances, WallClock, Restarts, LocalRead, MajorityRead, Acknowledged, ClocksAgree, WritesNothing, NewestRead}
 use Rattle.steps.specs.declared.Refusal.{Refusal}
 use Rattle.steps.specs.declared.Refusal.the-variants.{IllFormed, OutOfRange}
 use Rattle.steps.specs.declared.Stepped.{Stepped}
@@ -21,9 +21,12 @@ use Rattle.pairs.specs.RollsBack.{rollRules, rollDone}
 use Rattle.singles.specs.StepsDown.{downRules, downDone}
 use Rattle.singles.specs.WallClock.{clockRules, clockDone}
 use Rattle.singles.specs.Restarts.{restartsOf}
-use Rattle.singles.specs.Writes.{writeRules, writeDone}
+use Rattle.singles.specs.Appends.{appendRules, appendDone}
+use Rattle.singles.specs.Writes.{writeRules}
+use Rattle.singles.specs.WritesNothing.{nothingDone}
 use Rattle.singles.specs.LocalRead.{localRules, localDone}
 use Rattle.singles.specs.MajorityRead.{majorityRules, majorityDone}
+use Rattle.singles.specs.NewestRead.{newestRules, newestDone}
 use Rattle.wholes.specs.Starts.{startRules, startDone}
 use Rattle.wholes.specs.ClocksAgree.{agreesOf}
 use Rattle.wholes.specs.Elects.{electRules, electDone}
@@ -42,7 +45,7 @@ bothInRange c a b rs = inRange c a ∷ inRange c b ∷ (not (eqb a b), OutOfRang
 abbrev pub putBack : Cluster → ℕ → Stepped → Outcome
 putBack c a o = record { cluster = withServer c a (o .server); answer = o .answer }
 
--- 01's table of steps, a row a kind: what has to hold, in the order in which it is refused; the record afterwards and the answer
+-- 01's table of steps with 02's, a row a kind: what has to hold, in the order in which it is refused; the record afterwards and the answer
 unfoldable pub rowOf : Cluster → Step → Rules × Outcome
 rowOf c (Start n) = (startRules n, startDone n)
 rowOf c (Elect a m) = (electRules c a m, electDone c a m)
@@ -50,7 +53,7 @@ rowOf c (StepDown a) = (inRange c a ∷ downRules (serverAt c a .head), putBack 
 rowOf c (Hears a b) = (bothInRange c a b [], putBack c a (hearsOf (serverAt c a) (serverAt c b)))
 rowOf c (Pulls a b) = (bothInRange c a b (pullRules (serverAt c a) (serverAt c b)), putBack c a (pullDone (serverAt c a) (serverAt c b)))
 rowOf c (RollsBack a b) = (bothInRange c a b (rollRules (serverAt c a) (serverAt c b)), putBack c a (rollDone (serverAt c a) (serverAt c b)))
-rowOf c (Writes a key value) = (inRange c a ∷ writeRules (serverAt c a) key value, putBack c a (writeDone (serverAt c a) key value))
+rowOf c (Writes a key value) = (inRange c a ∷ writeRules (serverAt c a) key value, putBack c a (appendDone (serverAt c a) key value))
 rowOf c (Advances a) = (advanceRules c a, advanceDone c a)
 rowOf c (WallClock a) = (inRange c a ∷ clockRules (serverAt c a .head), putBack c a (clockDone (serverAt c a)))
 rowOf c (Restarts a) = (inRange c a ∷ [], putBack c a (restartsOf (serverAt c a)))
@@ -58,6 +61,8 @@ rowOf c (LocalRead a key asked) = (inRange c a ∷ localRules (serverAt c a) key
 rowOf c (MajorityRead a key asked) = (inRange c a ∷ majorityRules (serverAt c a) key asked, putBack c a (majorityDone (serverAt c a) key))
 rowOf c (Acknowledged a k n term) = (acknowledgeRules c a k n term, acknowledgeDone c a n)
 rowOf c ClocksAgree = ([], agreesOf c)
+rowOf c (WritesNothing a) = (inRange c a ∷ appendRules (serverAt c a), putBack c a (nothingDone (serverAt c a)))
+rowOf c (NewestRead a key n term) = (inRange c a ∷ newestRules (serverAt c a) key n term, putBack c a (newestDone (serverAt c a) key n))
 
 abbrev pub rulesOf : Cluster → Step → Rules
 rulesOf c s = rowOf c s .0

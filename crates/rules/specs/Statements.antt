@@ -12,7 +12,7 @@ use Rattle.steps.specs.declared.Outcome.{Outcome}
 use Rattle.steps.specs.declared.Refusal.{Refusal}
 use Rattle.steps.specs.declared.Refusal.the-variants.{IllFormed}
 use Rattle.steps.specs.declared.Step.{Step}
-use Rattle.steps.specs.declared.Step.the-variants.{Start, Elect, StepDown, Hears, Pulls, RollsBack, Writes, Advances, WallClock, Restarts, LocalRead, MajorityRead, Acknowledged, ClocksAgree}
+use Rattle.steps.specs.declared.Step.the-variants.{Start, Elect, StepDown, Hears, Pulls, RollsBack, Writes, Advances, WallClock, Restarts, LocalRead, MajorityRead, Acknowledged, ClocksAgree, WritesNothing, NewestRead}
 use Rattle.steps.specs.Answers.{refusingAll}
 use Rattle.steps.specs.Reasons.{Broken}
 use Rattle.rules.specs.Rules.{isStart, rulesOf, stepOf}
@@ -23,10 +23,6 @@ use Rattle.rules.specs.Rules.{isStart, rulesOf, stepOf}
 pub data Why (c : Cluster) (s : Step) : Refusal → Type 0 where
   ill-formed : (isStart s || wellFormed c) ≡ false → Why c s IllFormed
   broken : {r : Refusal} → (isStart s || wellFormed c) ≡ true → Broken (rulesOf c s) r → Why c s r
-
--- kind 12 alone asks about refusal 10 before 8
-abbrev pub OfKind12 : Step → Type 0
-OfKind12 s = (a : ℕ) × (k : ℕ) × (n : ℕ) × (term : ℕ) × (s ≡ Acknowledged a k n term)
 
 -- ---- which servers a step touches
 
@@ -46,6 +42,8 @@ touches c (LocalRead a key asked) i = false
 touches c (MajorityRead a key asked) i = false
 touches c (Acknowledged a k n term) i = false
 touches c ClocksAgree i = ltb i (c .count)
+touches c (WritesNothing a) i = eqb i a
+touches c (NewestRead a key n term) i = false
 
 -- ---- what a program is held to
 

@@ -11,10 +11,12 @@ use pairs::pulls::pulls;
 use pairs::rolls_back::rolls_back;
 use singles::local_read::local_read;
 use singles::majority_read::majority_read;
+use singles::newest_read::newest_read;
 use singles::restarts::restarts;
 use singles::steps_down::steps_down;
 use singles::wall_clock::wall_clock;
 use singles::writes::writes;
+use singles::writes_nothing::writes_nothing;
 use steps::Answer;
 use steps::Outcome;
 use steps::Refusal;
@@ -48,6 +50,8 @@ pub fn one(s: Server, t: Server, step: Step) -> Stepped
         Step::Restarts(_) => restarts(s),
         Step::LocalRead(_, key, asked) => local_read(s, key, asked),
         Step::MajorityRead(_, key, asked) => majority_read(s, key, asked),
+        Step::WritesNothing(_) => writes_nothing(s),
+        Step::NewestRead(_, key, n, term) => newest_read(s, key, n as usize, term),
         Step::Start(_) => untouched(s),
         Step::Elect(_, _) => untouched(s),
         Step::Advances(_) => untouched(s),
@@ -98,7 +102,7 @@ pub fn pair(c: Cluster, a: usize, b: usize, step: Step) -> Outcome
     }
 }
 
-// The step on a record that is not looked at. Here alone the numbers of a step are widened.
+// The step on a record that is not looked at. Here the servers' numbers of a step are widened.
 pub fn core(c: Cluster, step: Step) -> Outcome
     ensures { λ r. ⌜ r ≡ coreOf c step ⌝ }
 {
@@ -123,6 +127,8 @@ pub fn core(c: Cluster, step: Step) -> Outcome
             term,
         ),
         Step::ClocksAgree => clocks_agree(c),
+        Step::WritesNothing(a) => single(c, a as usize, step),
+        Step::NewestRead(a, _, _, _) => single(c, a as usize, step),
     }
 }
 

@@ -8,14 +8,20 @@ use Rattle.singles.specs.MajorityRead.{majorityReadOf}
 use Rattle.singles.specs.Restarts.{restartsOf}
 use Rattle.singles.specs.StepsDown.{stepsDownOf}
 use Rattle.singles.specs.WallClock.{wallClockOf}
-use Rattle.singles.specs.Writes.{writesOf, writtenOf}
+use Rattle.singles.specs.Appends.{appendsOf, stampDone}
+use Rattle.singles.specs.NewestRead.{newestReadOf}
+use Rattle.singles.specs.Writes.{writesOf}
+use Rattle.singles.specs.WritesNothing.{writesNothingOf}
 use Rattle.singles.proofs.steps_down.steps_down.Reads as steps-down-reads
 use Rattle.singles.proofs.wall_clock.wall_clock.Reads as wall-clock-reads
 use Rattle.singles.proofs.restarts.restarts.Reads as restarts-reads
 use Rattle.singles.proofs.writes.writes.Reads as writes-reads
-use Rattle.singles.proofs.writes.written.Reads as written-reads
+use Rattle.singles.proofs.appends.stamped.Reads as stamped-reads
+use Rattle.singles.proofs.appends.appends.Reads as appends-reads
+use Rattle.singles.proofs.writes_nothing.writes_nothing.Reads as writes-nothing-reads
 use Rattle.singles.proofs.local_read.local_read.Reads as local-read-reads
 use Rattle.singles.proofs.majority_read.majority_read.Reads as majority-read-reads
+use Rattle.singles.proofs.newest_read.newest_read.Reads as newest-read-reads
 
 pub steps-down : (s : Server) → OneResult (λ x. steps-down-reads.Learnt tt (s, tt) x (s, tt))
 steps-down s = one-result (stepsDownOf s)
@@ -29,11 +35,20 @@ restarts s = one-result (restartsOf s)
 pub writes : (s : Server) (key value : ℕ) → OneResult (λ x. writes-reads.Learnt tt (s, (key, (value, tt))) x (s, (key, (value, tt))))
 writes s key value = one-result (writesOf s key value)
 
-pub written : (s : Server) (key value : ℕ) (time : Time) → OneResult (λ x. written-reads.Learnt tt (s, (key, (value, (time, tt)))) x (s, (key, (value, (time, tt)))))
-written s key value time = one-result (writtenOf s key value time)
+pub writes-nothing : (s : Server) → OneResult (λ x. writes-nothing-reads.Learnt tt (s, tt) x (s, tt))
+writes-nothing s = one-result (writesNothingOf s)
+
+pub stamped : (s : Server) (key value : ℕ) (time : Time) → OneResult (λ x. stamped-reads.Learnt tt (s, (key, (value, (time, tt)))) x (s, (key, (value, (time, tt)))))
+stamped s key value time = one-result (stampDone s key value time)
+
+pub appends : (s : Server) (key value : ℕ) → OneResult (λ x. appends-reads.Learnt tt (s, (key, (value, tt))) x (s, (key, (value, tt))))
+appends s key value = one-result (appendsOf s key value)
 
 pub local-read : (s : Server) (key : ℕ) (asked : Time) → OneResult (λ x. local-read-reads.Learnt tt (s, (key, (asked, tt))) x (s, (key, (asked, tt))))
 local-read s key asked = one-result (localReadOf s key asked)
 
 pub majority-read : (s : Server) (key : ℕ) (asked : Time) → OneResult (λ x. majority-read-reads.Learnt tt (s, (key, (asked, tt))) x (s, (key, (asked, tt))))
 majority-read s key asked = one-result (majorityReadOf s key asked)
+
+pub newest-read : (s : Server) (key n term : ℕ) → OneResult (λ x. newest-read-reads.Learnt tt (s, (key, (n, (term, tt)))) x (s, (key, (n, (term, tt)))))
+newest-read s key n term = one-result (newestReadOf s key n term)

@@ -22,7 +22,7 @@ refusingAll c r = record { cluster = c; answer = Refused r }
 abbrev pub numberOf : ℕ → ℕ
 numberOf n = n % 65536
 
--- kind 1 fills term; 4, 5, 7 number; 6, 12 position, term and time; 10, 11 number with the time; all else is zero
+-- kind 1 fills term; 4, 5, 7 number; 6, 12, 14 position, term and time; 10, 11, 15 number with the time; all else is zero
 abbrev pub tellingOf : Answer → Telling
 tellingOf Done = T.Numbers 0 0 zeroTime
 tellingOf (Elected term) = T.Numbers 0 term zeroTime

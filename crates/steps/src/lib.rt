@@ -5,7 +5,7 @@ use clock::Time;
 use cluster::Cluster;
 use cluster::Server;
 
-// One variant a kind, in 01's order, holding just the fields that it uses, each as wide as on the wire.
+// One variant a kind, in the order of 01 and 02, holding just the fields that it uses, each as wide as on the wire.
 pub enum Step {
     // a servers
     Start(u8),
@@ -34,6 +34,10 @@ pub enum Step {
     // a, count, position, term
     Acknowledged(u8, u8, u16, u16),
     ClocksAgree,
+    // a
+    WritesNothing(u8),
+    // a, key, position, term
+    NewestRead(u8, u8, u16, u16),
 }
 
 // The fields of a step frame, in the order of its bytes; set is a set or a count.
@@ -72,7 +76,7 @@ pub enum Answer {
     Reached(usize),
     // position, and the entry's term and time
     Entry(usize, u16, Time),
-    // value, with the applied or commit time
+    // value, with the applied time, the commit time or that of the position asked
     Value(u16, Time),
     Refused(Refusal),
 }

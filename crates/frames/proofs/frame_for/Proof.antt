@@ -89,6 +89,18 @@ enum-told c = search needs
 fields-requires-14 : tie.Need-fields-requires-14
 fields-requires-14 c κs = search needs
 
+enum-known-s-14 : tie.Need-enum-known-s-14
+enum-known-s-14 c = search needs
+
+fields-requires-15 : tie.Need-fields-requires-15
+fields-requires-15 c κs = search needs
+
+enum-known-s-15 : tie.Need-enum-known-s-15
+enum-known-s-15 c = search needs
+
+fields-requires-16 : tie.Need-fields-requires-16
+fields-requires-16 c κs = search needs
+
 returns : tie.Need-returns
 returns c = c .fields .ensures ∙ sym (ap frameFor (c .before .before .s .given .1))
 
@@ -131,6 +143,12 @@ returns-13 c = c .fields13 .ensures ∙ sym (ap frameFor (c .before .before .s13
 returns-14 : tie.Need-returns-14
 returns-14 c = c .fields14 .ensures ∙ sym (ap frameFor (c .before .enum-told .given .1))
 
+returns-15 : tie.Need-returns-15
+returns-15 c = c .fields15 .ensures ∙ sym (ap frameFor (c .before .before .s14 .given .1))
+
+returns-16 : tie.Need-returns-16
+returns-16 c = c .fields16 .ensures ∙ sym (ap frameFor (c .before .before .s15 .given .1))
+
 pub frame-for-spec : {M : Type 1} → statement M
 frame-for-spec =
     tie.close
@@ -163,6 +181,10 @@ frame-for-spec =
     fields-requires-13
     enum-told
     fields-requires-14
+    enum-known-s-14
+    fields-requires-15
+    enum-known-s-15
+    fields-requires-16
     returns
     returns-2
     returns-3
@@ -176,4 +198,6 @@ frame-for-spec =
     returns-11
     returns-12
     returns-13
-    returns-14)
+    returns-14
+    returns-15
+    returns-16)

@@ -67,8 +67,14 @@ returns-14 : tie.Need-returns-14
 returns-14 c = at-kind (c .before .before .args .f) 13 (c .match .keys14)
 
 returns-15 : tie.Need-returns-15
+returns-15 c = at-kind (c .before .before .args .f) 14 (c .match .keys15)
+
+returns-16 : tie.Need-returns-16
+returns-16 c = at-kind (c .before .before .args .f) 15 (c .match .keys16)
+
+returns-17 : tie.Need-returns-17
 unfolding NoneBelow
-returns-15 c = let f = c .before .before .args .f in sym (unknown-kind f (above (f .kind) kinds (c .match .rest)))
+returns-17 c = let f = c .before .before .args .f in sym (unknown-kind f (above (f .kind) kinds (c .match .rest)))
 
 pub step-of-spec : {M : Type 1} → statement M
 step-of-spec =
@@ -88,4 +94,6 @@ step-of-spec =
     returns-12
     returns-13
     returns-14
-    returns-15)
+    returns-15
+    returns-16
+    returns-17)

@@ -1,5 +1,5 @@
 -- `rules::core` meets its contract. Assumes nothing.
-use Rattle.rules.proofs.Parts.{core-down, core-hears, core-pulls, core-rolls-back, core-writes, core-clock, core-restarts, core-local, core-majority}
+use Rattle.rules.proofs.Parts.{core-down, core-hears, core-pulls, core-rolls-back, core-writes, core-clock, core-restarts, core-local, core-majority, core-nothing, core-newest}
 use Rattle.rules.specs.Rules.{rowOf, coreOf}
 use mathlib.Core.Path.{sym, ap, _∙_}
 use borrow.Author.Needs.{needs}
@@ -144,6 +144,24 @@ enum-told c = search needs
 clocks-agree-requires : tie.Need-clocks-agree-requires
 clocks-agree-requires c κs = search needs
 
+enum-known-step-14 : tie.Need-enum-known-step-14
+enum-known-step-14 c = search needs
+
+cast-single-7 : tie.Need-cast-single-7
+cast-single-7 c = search needs
+
+single-requires-7 : tie.Need-single-requires-7
+single-requires-7 c κs = search needs
+
+enum-known-step-15 : tie.Need-enum-known-step-15
+enum-known-step-15 c = search needs
+
+cast-single-8 : tie.Need-cast-single-8
+cast-single-8 c = search needs
+
+single-requires-8 : tie.Need-single-requires-8
+single-requires-8 c κs = search needs
+
 returns : tie.Need-returns
 unfolding coreOf rowOf
 returns c = let e = c .before .before .step .given .1 in c .starts .ensures ∙ sym (ap (coreOf (c .before .before .before .before .args .c)) e)
@@ -190,6 +208,12 @@ returns-13 c = let e = c .before .before .step13 .given .1 in c .acknowledged .e
 returns-14 : tie.Need-returns-14
 unfolding coreOf rowOf
 returns-14 c = c .clocks-agree .ensures ∙ sym (ap (coreOf (c .before .before .before .args .c)) (c .before .enum-told .given .1))
+
+returns-15 : tie.Need-returns-15
+returns-15 c = let g = c .before .before .step14 .given in c .single7 .ensures ∙ core-nothing (c .before .before .before .before .args .c) (g .0 .0) ∙ sym (ap (coreOf (c .before .before .before .before .args .c)) (g .1))
+
+returns-16 : tie.Need-returns-16
+returns-16 c = let g = c .before .before .step15 .given in c .single8 .ensures ∙ core-newest (c .before .before .before .before .args .c) (g .0 .0) (g .0 .1 .0) (g .0 .1 .1 .0) (g .0 .1 .1 .1 .0) ∙ sym (ap (coreOf (c .before .before .before .before .args .c)) (g .1))
 
 pub core-spec : {M : Type 1} → statement M
 core-spec =
@@ -241,6 +265,12 @@ core-spec =
     acknowledged-requires
     enum-told
     clocks-agree-requires
+    enum-known-step-14
+    cast-single-7
+    single-requires-7
+    enum-known-step-15
+    cast-single-8
+    single-requires-8
     returns
     returns-2
     returns-3
@@ -254,4 +284,6 @@ core-spec =
     returns-11
     returns-12
     returns-13
-    returns-14)
+    returns-14
+    returns-15
+    returns-16)

@@ -62,29 +62,44 @@ majority-read-requires c κs = search needs
 enum-told-7 : tie.Need-enum-told-7
 enum-told-7 c = search needs
 
-untouched-requires : tie.Need-untouched-requires
-untouched-requires c κs = search needs
+writes-nothing-requires : tie.Need-writes-nothing-requires
+writes-nothing-requires c κs = search needs
+
+enum-known-step-4 : tie.Need-enum-known-step-4
+enum-known-step-4 c = search needs
+
+cast-newest-read : tie.Need-cast-newest-read
+cast-newest-read c = search needs
+
+newest-read-requires : tie.Need-newest-read-requires
+newest-read-requires c κs = search needs
 
 enum-told-8 : tie.Need-enum-told-8
 enum-told-8 c = search needs
 
-untouched-requires-2 : tie.Need-untouched-requires-2
-untouched-requires-2 c κs = search needs
+untouched-requires : tie.Need-untouched-requires
+untouched-requires c κs = search needs
 
 enum-told-9 : tie.Need-enum-told-9
 enum-told-9 c = search needs
 
-untouched-requires-3 : tie.Need-untouched-requires-3
-untouched-requires-3 c κs = search needs
+untouched-requires-2 : tie.Need-untouched-requires-2
+untouched-requires-2 c κs = search needs
 
 enum-told-10 : tie.Need-enum-told-10
 enum-told-10 c = search needs
 
-untouched-requires-4 : tie.Need-untouched-requires-4
-untouched-requires-4 c κs = search needs
+untouched-requires-3 : tie.Need-untouched-requires-3
+untouched-requires-3 c κs = search needs
 
 enum-told-11 : tie.Need-enum-told-11
 enum-told-11 c = search needs
+
+untouched-requires-4 : tie.Need-untouched-requires-4
+untouched-requires-4 c κs = search needs
+
+enum-told-12 : tie.Need-enum-told-12
+enum-told-12 c = search needs
 
 untouched-requires-5 : tie.Need-untouched-requires-5
 untouched-requires-5 c κs = search needs
@@ -127,23 +142,31 @@ returns-9 c = let b = c .before .before .before .before .args in c .majority-rea
 
 returns-10 : tie.Need-returns-10
 unfolding oneOf
-returns-10 c = let b = c .before .before .before .args in c .untouched .ensures ∙ sym (ap (oneOf (b .s) (b .t)) (c .before .enum-told7 .given .1))
+returns-10 c = let b = c .before .before .before .args in c .writes-nothing .ensures ∙ sym (ap (oneOf (b .s) (b .t)) (c .before .enum-told7 .given .1))
 
 returns-11 : tie.Need-returns-11
 unfolding oneOf
-returns-11 c = let b = c .before .before .before .args in c .untouched2 .ensures ∙ sym (ap (oneOf (b .s) (b .t)) (c .before .enum-told8 .given .1))
+returns-11 c = let b = c .before .before .before .before .args in c .newest-read .ensures ∙ sym (ap (oneOf (b .s) (b .t)) (c .before .before .step4 .given .1))
 
 returns-12 : tie.Need-returns-12
 unfolding oneOf
-returns-12 c = let b = c .before .before .before .args in c .untouched3 .ensures ∙ sym (ap (oneOf (b .s) (b .t)) (c .before .enum-told9 .given .1))
+returns-12 c = let b = c .before .before .before .args in c .untouched .ensures ∙ sym (ap (oneOf (b .s) (b .t)) (c .before .enum-told8 .given .1))
 
 returns-13 : tie.Need-returns-13
 unfolding oneOf
-returns-13 c = let b = c .before .before .before .args in c .untouched4 .ensures ∙ sym (ap (oneOf (b .s) (b .t)) (c .before .enum-told10 .given .1))
+returns-13 c = let b = c .before .before .before .args in c .untouched2 .ensures ∙ sym (ap (oneOf (b .s) (b .t)) (c .before .enum-told9 .given .1))
 
 returns-14 : tie.Need-returns-14
 unfolding oneOf
-returns-14 c = let b = c .before .before .before .args in c .untouched5 .ensures ∙ sym (ap (oneOf (b .s) (b .t)) (c .before .enum-told11 .given .1))
+returns-14 c = let b = c .before .before .before .args in c .untouched3 .ensures ∙ sym (ap (oneOf (b .s) (b .t)) (c .before .enum-told10 .given .1))
+
+returns-15 : tie.Need-returns-15
+unfolding oneOf
+returns-15 c = let b = c .before .before .before .args in c .untouched4 .ensures ∙ sym (ap (oneOf (b .s) (b .t)) (c .before .enum-told11 .given .1))
+
+returns-16 : tie.Need-returns-16
+unfolding oneOf
+returns-16 c = let b = c .before .before .before .args in c .untouched5 .ensures ∙ sym (ap (oneOf (b .s) (b .t)) (c .before .enum-told12 .given .1))
 
 pub one-spec : {M : Type 1} → statement M
 one-spec =
@@ -168,14 +191,19 @@ one-spec =
     enum-known-step-3
     majority-read-requires
     enum-told-7
-    untouched-requires
+    writes-nothing-requires
+    enum-known-step-4
+    cast-newest-read
+    newest-read-requires
     enum-told-8
-    untouched-requires-2
+    untouched-requires
     enum-told-9
-    untouched-requires-3
+    untouched-requires-2
     enum-told-10
-    untouched-requires-4
+    untouched-requires-3
     enum-told-11
+    untouched-requires-4
+    enum-told-12
     untouched-requires-5
     returns
     returns-2
@@ -190,4 +218,6 @@ one-spec =
     returns-11
     returns-12
     returns-13
-    returns-14)
+    returns-14
+    returns-15
+    returns-16)

@@ -1,9 +1,9 @@
--- `counts::acknowledged::has_entry` meets its contract. Assumes nothing.
-use Rattle.counts.specs.Acknowledged.{hasEntry}
+-- `log::has_entry` meets its contract. Assumes nothing.
+use Rattle.log.specs.Entries.{hasEntry}
 use Rattle.base.proofs.Facts.{tests}
 use borrow.Author.Needs.{needs}
-use Rattle.counts.proofs.acknowledged.has_entry.Statement.{statement}
-use Rattle.counts.proofs.acknowledged.has_entry.Tie as tie
+use Rattle.log.proofs.has_entry.Statement.{statement}
+use Rattle.log.proofs.has_entry.Tie as tie
 
 length-of-requires : tie.Need-length-of-requires
 length-of-requires c κs = search needs
