@@ -15,7 +15,7 @@ use Rattle.frames.specs.declared.ReadStep.{ReadStep}
 use Rattle.frames.specs.declared.ReadStep.the-variants as R
 use Rattle.rules.specs.Rules.{isStart, coreOf, stepOf, putBack}
 use Rattle.rules.specs.One.{oneOf, singleOf, pairOf}
-use Rattle.rules.proofs.Parts.{core-down, core-hears, core-pulls, core-rolls-back, core-writes, core-clock, core-restarts, core-local, core-majority}
+use Rattle.rules.proofs.Parts.{core-down, core-hears, core-pulls, core-rolls-back, core-writes, core-clock, core-restarts, core-local, core-majority, core-nothing, core-newest}
 use Rattle.replay.specs.declared.Plan.{Plan}
 use Rattle.replay.specs.declared.Plan.the-variants.{Refuse, Server, Record}
 use Rattle.replay.specs.Texts.{respond}
@@ -59,6 +59,8 @@ place-does c (S.LocalRead a key asked) = alone-does c a (S.LocalRead a key asked
 place-does c (S.MajorityRead a key asked) = alone-does c a (S.MajorityRead a key asked) ∙ core-majority c a key asked
 place-does c (S.Acknowledged a k n term) = refl
 place-does c S.ClocksAgree = refl
+place-does c (S.WritesNothing a) = alone-does c a (S.WritesNothing a) ∙ core-nothing c a
+place-does c (S.NewestRead a key n term) = alone-does c a (S.NewestRead a key n term) ∙ core-newest c a key n term
 
 pub plan-does : (c : Cluster) (r : ReadStep) → carriedOut c (planOf (serverCount c) (wellFormed c) r) ≡ respond c r
 unfolding planOf respond stepOf carriedOut
@@ -115,6 +117,8 @@ place-names size (S.LocalRead a key asked) = alone-names size a (S.LocalRead a k
 place-names size (S.MajorityRead a key asked) = alone-names size a (S.MajorityRead a key asked)
 place-names size (S.Acknowledged a k n term) = tt
 place-names size S.ClocksAgree = tt
+place-names size (S.WritesNothing a) = alone-names size a (S.WritesNothing a)
+place-names size (S.NewestRead a key n term) = alone-names size a (S.NewestRead a key n term)
 
 plan-names : (size : ℕ) (formed : Bool) (r : ReadStep) → Names size (planOf size formed r)
 unfolding planOf

@@ -41,6 +41,8 @@ placeOf size (S.LocalRead a key asked) = planAlone size a (S.LocalRead a key ask
 placeOf size (S.MajorityRead a key asked) = planAlone size a (S.MajorityRead a key asked)
 placeOf size (S.Acknowledged a k n term) = Record (S.Acknowledged a k n term)
 placeOf size S.ClocksAgree = Record S.ClocksAgree
+placeOf size (S.WritesNothing a) = planAlone size a (S.WritesNothing a)
+placeOf size (S.NewestRead a key n term) = planAlone size a (S.NewestRead a key n term)
 
 -- refusal 1, then 2, then the step
 unfoldable pub planOf : ℕ → Bool → ReadStep → Plan

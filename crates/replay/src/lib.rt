@@ -216,6 +216,8 @@ fn place(size: usize, s: Step) -> Plan
         Step::MajorityRead(a, _, _) => plan_alone(size, a as usize, s),
         Step::Acknowledged(_, _, _, _) => Plan::Record(s),
         Step::ClocksAgree => Plan::Record(s),
+        Step::WritesNothing(a) => plan_alone(size, a as usize, s),
+        Step::NewestRead(a, _, _, _) => plan_alone(size, a as usize, s),
     }
 }
 

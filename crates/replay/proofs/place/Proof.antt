@@ -111,6 +111,24 @@ enum-told-4 c = search needs
 enum-told-5 : tie.Need-enum-told-5
 enum-told-5 c = search needs
 
+enum-known-s-10 : tie.Need-enum-known-s-10
+enum-known-s-10 c = search needs
+
+cast-plan-alone-7 : tie.Need-cast-plan-alone-7
+cast-plan-alone-7 c = search needs
+
+plan-alone-requires-7 : tie.Need-plan-alone-requires-7
+plan-alone-requires-7 c κs = search needs
+
+enum-known-s-11 : tie.Need-enum-known-s-11
+enum-known-s-11 c = search needs
+
+cast-plan-alone-8 : tie.Need-cast-plan-alone-8
+cast-plan-alone-8 c = search needs
+
+plan-alone-requires-8 : tie.Need-plan-alone-requires-8
+plan-alone-requires-8 c κs = search needs
+
 returns : tie.Need-returns
 unfolding placeOf
 returns c = let e = c .enum-told .given .1 in ap Record e ∙ sym (ap (placeOf (c .before .before .args .size)) e)
@@ -167,6 +185,14 @@ returns-14 : tie.Need-returns-14
 unfolding placeOf
 returns-14 c = let e = c .enum-told5 .given .1 in ap Record e ∙ sym (ap (placeOf (c .before .before .args .size)) e)
 
+returns-15 : tie.Need-returns-15
+unfolding placeOf
+returns-15 c = c .plan-alone7 .ensures ∙ sym (ap (placeOf (c .before .before .before .before .args .size)) (c .before .before .s10 .given .1))
+
+returns-16 : tie.Need-returns-16
+unfolding placeOf
+returns-16 c = c .plan-alone8 .ensures ∙ sym (ap (placeOf (c .before .before .before .before .args .size)) (c .before .before .s11 .given .1))
+
 pub place-spec : {M : Type 1} → statement M
 place-spec =
     tie.close
@@ -206,6 +232,12 @@ place-spec =
     plan-alone-requires-6
     enum-told-4
     enum-told-5
+    enum-known-s-10
+    cast-plan-alone-7
+    plan-alone-requires-7
+    enum-known-s-11
+    cast-plan-alone-8
+    plan-alone-requires-8
     returns
     returns-2
     returns-3
@@ -219,4 +251,6 @@ place-spec =
     returns-11
     returns-12
     returns-13
-    returns-14)
+    returns-14
+    returns-15
+    returns-16)
