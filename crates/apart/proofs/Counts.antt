@@ -5,13 +5,14 @@ use mathlib.Core.List.{[], _∷_}
 use Rattle.base.specs.Numbers.{count, highest}
 use Rattle.base.specs.Lists.{eachFrom}
 use Rattle.clock.specs.Times.{sameTime}
-use Rattle.log.specs.Entries.{sameEntry, entryAt, equalAt}
+use Rattle.log.specs.Entries.{sameEntry, entryAt, equalAt, hasEntry}
+use Rattle.log.specs.Logs.{mayAsk}
 use Rattle.cluster.specs.Servers.{freshServer, startedOf}
-use Rattle.steps.specs.declared.Answer.the-variants.{Reached, Refused}
-use Rattle.steps.specs.declared.Refusal.the-variants.{OutOfRange, WrongRole, NoSuchEntry}
+use Rattle.steps.specs.declared.Answer.the-variants.{Reached, Entry, Refused}
+use Rattle.steps.specs.declared.Refusal.the-variants.{WrongRole, NoSuchEntry}
 use Rattle.counts.specs.Advances.{backs, passes, highestPassing, advancesOf}
-use Rattle.counts.specs.Acknowledged.{holders, isAcknowledged, hasEntry, acknowledgedOf}
-use Rattle.apart.proofs.Things.{x, y, z, holder, leader, two, F2}
+use Rattle.counts.specs.Acknowledged.{holders, isAcknowledged, acknowledgedOf}
+use Rattle.apart.proofs.Things.{at, x, y, z, holder, leader, two, F2}
 
 pub counts-members-of-other-terms : backs (holder 1 (x ∷ [])) 1 (holder 2 (x ∷ [])) ≡ false
 unfolding backs
@@ -49,17 +50,10 @@ pub acknowledged-by-more : isAcknowledged (two (holder 1 (x ∷ [])) (holder 1 (
 unfolding count sameTime sameEntry entryAt equalAt isAcknowledged
 acknowledged-by-more = refl
 
-pub has-entry-of-any-term : hasEntry (holder 1 (x ∷ [])) 1 2 ≡ false
-unfolding entryAt hasEntry
-has-entry-of-any-term = refl
-
-pub has-entry-past-the-length : hasEntry freshServer 1 0 ≡ false
-unfolding hasEntry
-has-entry-past-the-length = refl
-
 pub not-yet-before-no-such-entry : acknowledgedOf F2 0 1 1 1 .answer ≡ Refused NoSuchEntry
-unfolding eachFrom startedOf hasEntry
+unfolding eachFrom startedOf hasEntry mayAsk
 not-yet-before-no-such-entry = refl
 
-pub acknowledged-10-at-33 : acknowledgedOf F2 0 0 33 1 .answer ≡ Refused OutOfRange
-acknowledged-10-at-33 = refl
+pub acknowledged-by-fewer-than-all : acknowledgedOf (two (holder 1 (x ∷ [])) (holder 1 (x ∷ []))) 0 2 1 1 .answer ≡ Entry 1 1 (at 1 0)
+unfolding count sameTime sameEntry entryAt equalAt hasEntry mayAsk isAcknowledged
+acknowledged-by-fewer-than-all = refl

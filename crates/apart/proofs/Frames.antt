@@ -30,22 +30,27 @@ pub byte-of-255-values : (highOf 255 ≡ 0) × (lowOf 255 ≡ 255) × (wordOf 1 
 unfolding highOf lowOf wordOf
 byte-of-255-values = (refl, refl, refl)
 
--- the characters 0, 1, 3, a, b, c and e are 48, 49, 51, 97, 98, 99 and 101; the key stands at the characters 8 and 9, the number at 10 to 13
+-- the characters 0, 1, 3, a, b, c and f are 48, 49, 51, 97, 98, 99 and 102; the key stands at the characters 8 and 9, the number at 10 to 13
 
 -- a whole frame and one more character
 pub long-line-is-taken : readStep (writeStep ClocksAgree ++ (48 ∷ [])) ≡ R.NoFrame
 unfolding charOf highOf lowOf bytesOfFrame framed
 long-line-is-taken = refl
 
--- 0e and then 0
-pub kind-14-is-taken : readStep (48 ∷ 101 ∷ replicate 24 48) ≡ R.NoFrame
+-- 10 and then 0
+pub kind-16-is-taken : readStep (49 ∷ replicate 25 48) ≡ R.NoFrame
 unfolding every digitOf byteOf allHex highOf lowOf wordOf framed bytesOfFrame frameOf stepOfFrame isClean stepIn
-kind-14-is-taken = refl
+kind-16-is-taken = refl
 
 -- kind 0c, key 01
 pub mask-off-by-a-byte : readStep (48 ∷ 99 ∷ (replicate 7 48 ++ (49 ∷ replicate 16 48))) ≡ R.NoFrame
 unfolding every digitOf byteOf allHex highOf lowOf framed bytesOfFrame stepOfFrame isClean stepIn
 mask-off-by-a-byte = refl
+
+-- kind 0f, set 01
+pub kind-15-uses-a-set : readStep (48 ∷ 102 ∷ (replicate 5 48 ++ (49 ∷ replicate 18 48))) ≡ R.NoFrame
+unfolding every digitOf byteOf allHex highOf lowOf framed bytesOfFrame stepOfFrame isClean stepIn
+kind-15-uses-a-set = refl
 
 pub step-with-a-byte-of-the-term : take 4 (drop 10 (writeStep (Writes 0 5 256))) ≡ 48 ∷ 49 ∷ 48 ∷ 48 ∷ []
 unfolding charOf highOf lowOf bytesOfFrame

@@ -8,8 +8,8 @@ use Rattle.base.specs.Numbers.{every, highest}
 use Rattle.clock.specs.Times.{isBefore, sameTime}
 use Rattle.log.specs.declared.Entry.{Entry}
 use Rattle.log.specs.declared.Log.{Log}
-use Rattle.log.specs.Entries.{zeroEntry, sameEntry, entryAt, lastTerm, appliedTime, equalAt, commonBeginning, isBeginning, latestValue}
-use Rattle.log.specs.Logs.{emptyLog, live, lengthOf, appended, joined}
+use Rattle.log.specs.Entries.{zeroEntry, sameEntry, entryAt, lastTerm, appliedTime, equalAt, hasEntry, commonBeginning, isBeginning, latestValue}
+use Rattle.log.specs.Logs.{mayAsk, emptyLog, live, lengthOf, appended, joined}
 use Rattle.log.specs.Order.{entryOk, follows, placeOk, inOrder, restZero, logOk}
 use Rattle.apart.proofs.Things.{at, entry, x, y, z, u, log}
 
@@ -65,6 +65,22 @@ pub equal-by-lengths-alone : equalAt (live (log (x ∷ []))) (live (log (y ∷ [
 unfolding sameTime sameEntry entryAt equalAt
 equal-by-lengths-alone = refl
 
+pub has-entry-of-any-term : hasEntry (live (log (x ∷ []))) 1 2 ≡ false
+unfolding entryAt hasEntry
+has-entry-of-any-term = refl
+
+pub has-entry-past-the-length : hasEntry (live emptyLog) 1 0 ≡ false
+unfolding hasEntry
+has-entry-past-the-length = refl
+
+pub may-ask-at-33 : mayAsk 33 1 ≡ false
+unfolding mayAsk
+may-ask-at-33 = refl
+
+pub may-ask-in-term-0 : mayAsk 1 0 ≡ false
+unfolding mayAsk
+may-ask-in-term-0 = refl
+
 pub common-counts-equal-positions : commonBeginning (live (log (x ∷ z ∷ []))) (live (log (y ∷ z ∷ []))) ≡ 0
 unfolding sameTime sameEntry commonBeginning
 common-counts-equal-positions = refl
@@ -98,6 +114,19 @@ value-past-n = refl
 pub entry-ok-of-key-16 : entryOk 1 (entry 1 16 1 (at 1 0)) ≡ false
 unfolding entryOk
 entry-ok-of-key-16 = refl
+
+pub entry-ok-of-key-254 : entryOk 1 (entry 1 254 0 (at 1 0)) ≡ false
+unfolding entryOk
+entry-ok-of-key-254 = refl
+
+pub nothing-of-value-1 : entryOk 1 (entry 1 255 1 (at 1 0)) ≡ false
+unfolding entryOk
+nothing-of-value-1 = refl
+
+-- all else about that entry is good
+pub nothing-of-value-0 : entryOk 1 (entry 1 255 0 (at 1 0)) ≡ true
+unfolding entryOk
+nothing-of-value-0 = refl
 
 pub entry-ok-above-the-term : entryOk 1 (entry 2 5 1 (at 1 0)) ≡ false
 unfolding entryOk

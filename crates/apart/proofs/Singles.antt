@@ -1,22 +1,28 @@
--- What the definitions of kinds 2, 6, 8, 9, 10 and 11 give where a wrong program differs. Assumes nothing.
+-- What the definitions of kinds 2, 6, 8, 9, 10, 11, 14 and 15 give where a wrong program differs. Assumes nothing.
 use mathlib.Core.Path.{_≡_, refl}
-use mathlib.Core.Bool.{false}
-use mathlib.Core.List.{[], _∷_}
+use mathlib.Core.Bool.{Bool, true, false}
+use mathlib.Core.List.{List, [], _∷_}
 use lib.ListN.{replicate}
 use Rattle.base.specs.Numbers.{highest}
-use Rattle.clock.specs.Times.{isBefore}
-use Rattle.log.specs.Entries.{entryAt, latestValue}
-use Rattle.log.specs.Logs.{live, appended}
+use Prim.Native.Nat.{ℕ}
+use Rattle.clock.specs.Times.{isBefore, tickOf}
+use Rattle.log.specs.declared.Entry.{Entry}
+use Rattle.log.specs.Entries.{entryAt, hasEntry, latestValue}
+use Rattle.log.specs.Logs.{mayAsk, live, appended}
 use Rattle.cluster.specs.Servers.{freshServer}
+use Rattle.steps.specs.declared.Answer.{Answer}
 use Rattle.steps.specs.declared.Answer.the-variants.{Value, Refused}
-use Rattle.steps.specs.declared.Refusal.the-variants.{OutOfRange, WrongRole, LogFull, AtLimit, NotYet}
+use Rattle.steps.specs.declared.Refusal.the-variants.{OutOfRange, WrongRole, LogFull, AtLimit, NotYet, NoSuchEntry}
 use Rattle.singles.specs.StepsDown.{stepsDownOf}
 use Rattle.singles.specs.WallClock.{wallClockOf}
 use Rattle.singles.specs.Restarts.{restartsOf}
-use Rattle.singles.specs.Writes.{wroteOf, writtenOf, writesOf}
+use Rattle.singles.specs.Appends.{stampedOf, stampDone, appendsOf}
+use Rattle.singles.specs.Writes.{writesOf}
+use Rattle.singles.specs.WritesNothing.{writesNothingOf}
 use Rattle.singles.specs.LocalRead.{localReadOf}
 use Rattle.singles.specs.MajorityRead.{majorityReadOf}
-use Rattle.apart.proofs.Things.{at, x, z, holder, leader, covering, clocked, timed}
+use Rattle.singles.specs.NewestRead.{newestReadOf}
+use Rattle.apart.proofs.Things.{at, x, z, server, holder, leader, covering, clocked, timed}
 
 pub steps-down-and-stays-primary : stepsDownOf (leader []) .server .head .primary ≡ false
 steps-down-and-stays-primary = refl
@@ -46,13 +52,25 @@ writes-key-sixteen = refl
 pub role-before-range : writesOf freshServer 16 1 .answer ≡ Refused OutOfRange
 role-before-range = refl
 
-pub written-stamps-the-old-time : entryAt (live (writtenOf (timed (at 1 0)) 5 41 (at 2 0) .server .log)) 1 .time ≡ at 2 0
-unfolding entryAt appended wroteOf
-written-stamps-the-old-time = refl
+pub stamped-with-the-old-time : entryAt (live (stampDone (timed (at 1 0)) 5 41 (at 2 0) .server .log)) 1 .time ≡ at 2 0
+unfolding entryAt appended stampedOf
+stamped-with-the-old-time = refl
 
-pub written-leaves-the-time : writtenOf (timed (at 1 0)) 5 41 (at 2 0) .server .head .time ≡ at 2 0
-unfolding wroteOf
-written-leaves-the-time = refl
+pub stamped-leaves-the-time : stampDone (timed (at 1 0)) 5 41 (at 2 0) .server .head .time ≡ at 2 0
+unfolding stampedOf
+stamped-leaves-the-time = refl
+
+pub nothing-without-a-tick : appendsOf (leader []) 255 0 .server .head .time ≡ at 1 0
+unfolding isBefore tickOf stampedOf
+nothing-without-a-tick = refl
+
+pub nothing-under-key-0 : entryAt (live (writesNothingOf (leader []) .server .log)) 1 .key ≡ 255
+unfolding entryAt appended stampedOf tickOf
+nothing-under-key-0 = refl
+
+pub nothing-with-value-1 : entryAt (live (writesNothingOf (leader []) .server .log)) 1 .value ≡ 0
+unfolding entryAt appended stampedOf tickOf
+nothing-with-value-1 = refl
 
 pub reads-only-committed-entries : localReadOf (holder 1 (x ∷ [])) 5 (at 0 0) .answer ≡ Value 41 (at 1 0)
 unfolding highest isBefore entryAt latestValue
@@ -69,3 +87,31 @@ majority-reads-the-whole-log = refl
 pub majority-waits-for-the-applied-time : majorityReadOf (covering (x ∷ z ∷ [])) 5 (at 2 0) .answer ≡ Refused NotYet
 unfolding isBefore entryAt
 majority-waits-for-the-applied-time = refl
+
+-- a server of this term, role, commit point and log, asked for key 5 up to position 1 in term 1
+abbrev asked : ℕ → Bool → ℕ → List Entry → Answer
+asked term primary commit es = newestReadOf (server term primary commit 1 (at 2 0) es) 5 1 1 .answer
+
+pub newest-read-at-a-secondary : asked 1 false 1 (x ∷ []) ≡ Refused WrongRole
+unfolding mayAsk
+newest-read-at-a-secondary = refl
+
+pub newest-read-in-another-term : asked 2 true 1 (x ∷ []) ≡ Refused WrongRole
+unfolding mayAsk
+newest-read-in-another-term = refl
+
+pub newest-read-before-the-commit-point : asked 1 true 0 (x ∷ []) ≡ Refused NotYet
+unfolding entryAt hasEntry mayAsk
+newest-read-before-the-commit-point = refl
+
+pub newest-read-up-to-the-commit-point : asked 1 true 2 (x ∷ z ∷ []) ≡ Value 41 (at 1 0)
+unfolding highest entryAt hasEntry latestValue mayAsk
+newest-read-up-to-the-commit-point = refl
+
+pub newest-read-of-the-whole-log : asked 1 true 1 (x ∷ z ∷ []) ≡ Value 41 (at 1 0)
+unfolding highest entryAt hasEntry latestValue mayAsk
+newest-read-of-the-whole-log = refl
+
+pub newest-read-8-before-10 : asked 1 true 0 [] ≡ Refused NoSuchEntry
+unfolding hasEntry mayAsk
+newest-read-8-before-10 = refl
