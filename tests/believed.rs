@@ -11,7 +11,7 @@ use std::path::{Path, PathBuf};
 use std::process::ExitCode;
 
 /// Where the following starts: a module and what it defines.
-const ROOTS: [(&str, &str); 14] = [
+const ROOTS: [(&str, &str); 16] = [
     ("rules.Rules", "stepOf"),
     ("replay.Texts", "answers"),
     ("replay.Texts", "leaves"),
@@ -26,6 +26,8 @@ const ROOTS: [(&str, &str); 14] = [
     ("demand3.Promise", "Never9InTexts"),
     ("demand3.Promise", "Never9Written"),
     ("demand3.Promise", "EveryRun"),
+    ("safety.Newest", "NewestPromised"),
+    ("demand3.Newest", "NewestInTexts"),
 ];
 /// Modules that hold the words of claims and nothing else: all that they define.
 const WORDS: [&str; 2] = ["steps.Reasons", "rules.Statements"];

@@ -61,13 +61,12 @@ use Rattle.steps.specs.declared.Step.{Step}
 use Rattle.steps.specs.declared.Telling.{Telling}
 use Rattle.steps.specs.Answers.{refusingAll}
 use Rattle.steps.specs.Ranges.{FitsStep}
-use Rattle.steps.specs.Reasons.{Clear, Broken, Applies}
-use Rattle.steps.specs.Refusals.{refusalNumber}
+use Rattle.steps.specs.Reasons.{Clear, Broken, Applies, rankOf}
 use Rattle.rules.specs.Rules.{isStart, rulesOf, doneOf, stepOf}
-use Rattle.rules.specs.Statements.{Why, OfKind12, touches, Differs, refusesEach, saysOne, leavesAll, echoesLater}
+use Rattle.rules.specs.Statements.{Why, touches, Differs, refusesEach, saysOne, leavesAll, echoesLater}
 use Rattle.rules.proofs.step.Reads as step-contract
 use Rattle.rules.proofs.Outcomes as outcomes
-use Rattle.rules.proofs.Lowest as lowest
+use Rattle.rules.proofs.Ranks as ranks
 use Rattle.rules.proofs.Others as others
 use Rattle.rules.proofs.Keeps as keeps
 use Rattle.rules.proofs.Shut as shut
@@ -104,8 +103,12 @@ use Rattle.shell.specs.Loop.{Drains}
 use Rattle.shell.proofs.Loop as loop
 use Rattle.safety.specs.Promise.{Promised}
 use Rattle.safety.proofs.Promise as safety
+use Rattle.safety.specs.Newest.{NewestPromised}
+use Rattle.safety.proofs.Newest as newest
 use Rattle.demand3.specs.Promise.{PromisedInTexts, Never9InTexts, Never9Written, EveryRun}
 use Rattle.demand3.proofs.Promise as lines
+use Rattle.demand3.specs.Newest.{NewestInTexts}
+use Rattle.demand3.proofs.Newest as newest-lines
 use Rattle.demand3.proofs.Never9 as never-9
 use Rattle.demand3.proofs.Written as written
 use Rattle.demand3.proofs.Runs as runs
@@ -137,10 +140,9 @@ ill-formed-is-refused = outcomes.step-ill-formed
 pub refused-for-its-reason : (c : Cluster) (s : Step) (r : Refusal) → stepOf c s .answer ≡ A.Refused r → Why c s r
 refused-for-its-reason = outcomes.refused-why
 
--- and that is the lowest number that applies, but for kind 12, where 01 itself asks for 10 before 8
-pub lowest-refusal : (c : Cluster) (s : Step) → (OfKind12 s → ⊥) → (r : Refusal) → stepOf c s .answer ≡ A.Refused r → (q : Refusal)
-    → Applies (rulesOf c s) q → refusalNumber r ≤ refusalNumber q
-lowest-refusal = lowest.lowest-given
+-- and that is the first that applies, by one order for all kinds
+pub first-refusal : (c : Cluster) (s : Step) (r : Refusal) → stepOf c s .answer ≡ A.Refused r → (q : Refusal) → Applies (rulesOf c s) q → rankOf r ≤ rankOf q
+first-refusal = ranks.first-given
 
 -- a refusal changes nothing, of a step or of a line
 pub refusal-changes-nothing : (c : Cluster) (s : Step) (r : Refusal) → stepOf c s .answer ≡ A.Refused r → stepOf c s .cluster ≡ c
@@ -266,6 +268,15 @@ refusal-9-is-never-written = written.never-9-written
 -- nothing of the promise over steps is lost over lines: every run of steps is a text
 pub every-run-is-a-text : EveryRun
 every-run-is-a-text = runs.every-run
+
+-- ---- the read that is sure to be newest
+
+-- over steps, and over the lines of any text
+pub newest-over-steps : NewestPromised
+newest-over-steps = newest.newest-read
+
+pub newest-over-lines : NewestInTexts
+newest-over-lines = newest-lines.newest-read-text
 
 -- ---- what the definitions mean, beside document 01
 
