@@ -4,7 +4,7 @@ use super::Run;
 use crate::model::{KINDS, Role, SERVERS, Server, Step, Time};
 
 /// How often each kind is drawn among ordinary steps.
-const WEIGHTS: [usize; KINDS] = [1, 3, 2, 12, 14, 6, 12, 8, 5, 3, 8, 10, 12, 2];
+const WEIGHTS: [usize; KINDS] = [1, 3, 2, 12, 14, 6, 9, 8, 5, 3, 8, 10, 12, 2, 5, 10];
 
 impl Run {
     fn mostly<T: Copy>(&mut self, usual: T, odd: &[T]) -> T {
@@ -95,7 +95,7 @@ impl Run {
 
     fn key(&mut self) -> u8 {
         let usual = self.prng.below(4) as u8;
-        self.mostly(usual, &[4, 9, 14, 15, 15, 16, 17, 255])
+        self.mostly(usual, &[4, 9, 14, 15, 15, 16, 17, 254, 255, 255])
     }
 
     fn value(&mut self) -> u16 {
@@ -129,8 +129,28 @@ impl Run {
         Step::Acknowledged { a, count, position, term }
     }
 
+    /// Mostly about an entry of a's own term, since only those are answered: they end its log. An
+    /// older one is asked for in its own term or in a's.
+    pub(super) fn newest_read(&mut self, a: u8) -> Step {
+        let Server { term, log, .. } = *self.at(a);
+        let older = log.entries[..log.length].iter().filter(|entry| entry.term < term).count();
+        let before = if older == log.length || self.prng.one_in(8) { 0 } else { older };
+        let usual = (before + 1 + self.prng.below((log.length - before).max(1))) as u16;
+        let odd = [0, log.length as u16 + 1, 32, 33, 256 + usual, 65_535];
+        let position = self.mostly(usual, &odd);
+        let of_entry = log.entry(position.into()).map_or(term, |entry| entry.term);
+        let term = if self.prng.one_in(4) { of_entry } else { term };
+        let term = self.mostly(term, &[0, 0, term.wrapping_add(1), term ^ 256, 65_535]);
+        Step::NewestRead { a, key: self.key(), position, term }
+    }
+
     pub(super) fn write_by(&mut self, a: u8) -> Step {
         Step::Writes { a, key: self.key(), value: self.value() }
+    }
+
+    /// What makes an entry at a: mostly a write, else what writes nothing.
+    pub(super) fn entry_by(&mut self, a: u8) -> Step {
+        if self.prng.one_in(4) { Step::WritesNothing { a } } else { self.write_by(a) }
     }
 
     /// A step of a kind. A start comes out refused: a session's own begins it.
@@ -159,7 +179,12 @@ impl Run {
                 Step::MajorityRead { a, key: self.key(), time }
             }
             12 => self.acknowledged(a),
-            _ => Step::ClocksAgree,
+            13 => Step::ClocksAgree,
+            14 => Step::WritesNothing { a: self.primary() },
+            _ => {
+                let a = self.primary();
+                self.newest_read(a)
+            }
         }
     }
 

@@ -21,7 +21,8 @@ fn fields_of(step: &Step) -> Fields {
         | Step::StepDown { a }
         | Step::Advances { a }
         | Step::WallClock { a }
-        | Step::Restarts { a } => Fields { a, ..UNUSED },
+        | Step::Restarts { a }
+        | Step::WritesNothing { a } => Fields { a, ..UNUSED },
         Step::Elect { a, set } => Fields { a, set_or_count: set, ..UNUSED },
         Step::Hears { a, b } | Step::Pulls { a, b } | Step::RollsBack { a, b } => {
             Fields { a, b, ..UNUSED }
@@ -37,6 +38,9 @@ fn fields_of(step: &Step) -> Fields {
             Fields { a, set_or_count: count, numbers, ..UNUSED }
         }
         Step::ClocksAgree => UNUSED,
+        Step::NewestRead { a, key, position, term } => {
+            Fields { a, key, numbers: Numbers { number: position, term, ..NUMBERS }, ..UNUSED }
+        }
     }
 }
 

@@ -2,7 +2,8 @@
 
 use super::Condition::*;
 use super::Role::*;
-use super::{Answer, Cluster, ENTRIES, Entry, KEY_MAX, Numbers, SERVERS, Step, Time, refuse_if};
+use super::{Answer, Cluster, Condition, ENTRIES, Entry, KEY_MAX, KEY_OF_NOTHING, Numbers};
+use super::{SERVERS, Server, Step, Time, refuse_if};
 
 /// Takes one step in place; a refused one leaves the record as it was.
 pub fn step(cluster: &mut Cluster, step: &Step) -> Answer {
@@ -30,6 +31,37 @@ pub fn step_where(holds: impl Fn(&Cluster) -> bool, cluster: &mut Cluster, step:
             cluster.acknowledged(a.into(), count.into(), position.into(), term)
         }
         Step::ClocksAgree => cluster.clocks_agree(),
+        Step::WritesNothing { a } => cluster.writes_nothing(a.into()),
+        Step::NewestRead { a, key, position, term } => {
+            cluster.newest_read(a.into(), key, position.into(), term)
+        }
+    }
+}
+
+/// A key that can be written and read. That of nothing is a condition of its own, so that the tally
+/// shows that it was asked for.
+fn refuse_key(key: u8) -> Result<(), Condition> {
+    refuse_if(key == KEY_OF_NOTHING, KeyOfNothing)?;
+    refuse_if(key > KEY_MAX, KeyAbove15)
+}
+
+/// A position that a log can have, and a term that an entry can have.
+fn refuse_place(position: usize, term: u16) -> Result<(), Condition> {
+    refuse_if(position == 0, PositionZero)?;
+    refuse_if(position > ENTRIES, PositionAbove32)?;
+    refuse_if(term == 0, TermZero)
+}
+
+impl Server {
+    /// What a write and an entry that writes nothing share: a primary's entry, stamped by a tick.
+    fn append_stamped(&mut self, key: u8, value: u16) -> Answer {
+        refuse_if(self.role != Primary, NotPrimary)?;
+        refuse_if(self.log.length == ENTRIES, LogFull)?;
+        let time = self.cluster_time.tick(self.wall_clock).ok_or(TickAtLimit)?;
+        let entry = Entry { term: self.term, key, value, time };
+        self.cluster_time = time;
+        self.log.push(entry);
+        Ok(Numbers::entry_at(self.log.length, &entry))
     }
 }
 
@@ -109,15 +141,9 @@ impl Cluster {
 
     fn writes(&mut self, a: usize, key: u8, value: u16) -> Answer {
         let a = self.server(a)?;
-        refuse_if(key > KEY_MAX, KeyAbove15)?;
+        refuse_key(key)?;
         refuse_if(value == 0, ValueZero)?;
-        refuse_if(a.role != Primary, NotPrimary)?;
-        refuse_if(a.log.length == ENTRIES, LogFull)?;
-        let time = a.cluster_time.tick(a.wall_clock).ok_or(TickAtLimit)?;
-        let entry = Entry { term: a.term, key, value, time };
-        a.cluster_time = time;
-        a.log.push(entry);
-        Ok(Numbers::entry_at(a.log.length, &entry))
+        a.append_stamped(key, value)
     }
 
     fn advances(&mut self, a: usize) -> Answer {
@@ -147,30 +173,27 @@ impl Cluster {
 
     fn local_read(&mut self, a: usize, key: u8, asked: Time) -> Answer {
         let a = self.server(a)?;
-        refuse_if(key > KEY_MAX, KeyAbove15)?;
+        refuse_key(key)?;
         let time = a.applied_time();
         refuse_if(time < asked, AppliedTimeBefore)?;
-        Ok(Numbers { number: a.log.value_of(key, a.log.length), time, ..Numbers::NONE })
+        Ok(Numbers::value(a.log.value_of(key, a.log.length), time))
     }
 
     fn majority_read(&mut self, a: usize, key: u8, asked: Time) -> Answer {
         let a = self.server(a)?;
-        refuse_if(key > KEY_MAX, KeyAbove15)?;
+        refuse_key(key)?;
         let time = a.commit_time();
         refuse_if(time < asked, CommitTimeBefore)?;
-        Ok(Numbers { number: a.log.value_of(key, a.commit_point), time, ..Numbers::NONE })
+        Ok(Numbers::value(a.log.value_of(key, a.commit_point), time))
     }
 
     /// Refusal 10 comes before 8: only an entry of that term can be waited for.
     fn acknowledged(&mut self, a: usize, count: usize, position: usize, term: u16) -> Answer {
         refuse_if(a >= self.count, ServerOutside)?;
         refuse_if(count > self.count, CountAbove)?;
-        refuse_if(position == 0, PositionZero)?;
-        refuse_if(position > ENTRIES, PositionAbove32)?;
-        refuse_if(term == 0, TermZero)?;
+        refuse_place(position, term)?;
         let server = &self.servers[a];
-        let entry = server.log.entry(position).ok_or(NoEntry)?;
-        refuse_if(entry.term != term, OtherTerm)?;
+        let entry = server.log.entry_of(position, term)?;
         refuse_if(count == 0 && server.commit_point < position, CommitPointBelow)?;
         refuse_if(self.holders(position, entry) < count, FewerThanCount)?;
         Ok(Numbers::entry_at(position, entry))
@@ -182,5 +205,21 @@ impl Cluster {
             server.wall_clock = greatest;
         }
         Ok(Numbers::NONE)
+    }
+
+    fn writes_nothing(&mut self, a: usize) -> Answer {
+        self.server(a)?.append_stamped(KEY_OF_NOTHING, 0)
+    }
+
+    /// Only the primary of the asked entry's own term answers, once that entry is committed.
+    fn newest_read(&mut self, a: usize, key: u8, position: usize, term: u16) -> Answer {
+        let a = self.server(a)?;
+        refuse_key(key)?;
+        refuse_place(position, term)?;
+        refuse_if(a.role != Primary, NotPrimary)?;
+        refuse_if(a.term != term, PrimaryOfOtherTerm)?;
+        let entry = a.log.entry_of(position, term)?;
+        refuse_if(a.commit_point < position, CommitPointBelow)?;
+        Ok(Numbers::value(a.log.value_of(key, position), entry.time))
     }
 }

@@ -40,6 +40,8 @@ pub const MUST_BE_ZERO: [u16; KINDS] = [
     all_but(A | KEY | TIME),
     all_but(A | SET_OR_COUNT | NUMBER | TERM),
     all_but(0),
+    all_but(A),
+    all_but(A | KEY | NUMBER | TERM),
 ];
 
 /// Reads a line without its line feed; of a longer one its first 27 bytes are enough.
@@ -84,8 +86,10 @@ fn read_frame(frame: &[u8; FRAME]) -> Result<Step, Condition> {
         10 => Step::LocalRead { a, key, time },
         11 => Step::MajorityRead { a, key, time },
         12 => Step::Acknowledged { a, count: set, position: number, term },
-        // The table above has let pass no kind but 13 here.
-        _ => Step::ClocksAgree,
+        13 => Step::ClocksAgree,
+        14 => Step::WritesNothing { a },
+        // The table above has let pass no kind but 15 here.
+        _ => Step::NewestRead { a, key, position: number, term },
     })
 }
 
@@ -114,7 +118,7 @@ mod tests {
     fn the_table_is_the_rulings_table() {
         let rulings = [
             0x1ffc, 0x1ff4, 0x1ffc, 0x1ff8, 0x1ff8, 0x1ff8, 0x1f8c, 0x1ffc, 0x1ffc, 0x1ffc, 0x01ec,
-            0x01ec, 0x1e14, 0x1ffe,
+            0x01ec, 0x1e14, 0x1ffe, 0x1ffc, 0x1e0c,
         ];
         assert_eq!(MUST_BE_ZERO, rulings);
     }
@@ -126,8 +130,24 @@ mod tests {
         assert_eq!(read_line(b""), Err(WrongLength));
         assert_eq!(read_line(frame), Err(UnusedByte));
         assert_eq!(read_line(b"0C010002000003000400000000"), Err(WrongCharacter));
-        assert_eq!(read_line(b"0e000000000000000000000000"), Err(UnknownKind));
+        assert_eq!(read_line(b"10000000000000000000000000"), Err(UnknownKind));
         let step = Step::Acknowledged { a: 1, count: 2, position: 0x304, term: 0x506 };
         assert_eq!(read_line(b"0c010002000304050600000000"), Ok(step));
+    }
+
+    #[test]
+    fn kinds_14_and_15_use_these_fields_alone() {
+        assert_eq!(read_line(b"0e070000000000000000000000"), Ok(Step::WritesNothing { a: 7 }));
+        let step = Step::NewestRead { a: 1, key: 255, position: 0x304, term: 0x506 };
+        assert_eq!(read_line(b"0f010000ff0304050600000000"), Ok(step));
+        for (kind, used) in [(14, vec![1]), (15, vec![1, 4, 5, 6, 7, 8])] {
+            for byte in 1..FRAME {
+                let mut line = [0; LINE];
+                let mut frame = [0; FRAME];
+                (frame[0], frame[byte]) = (kind, 1);
+                write_bytes(&mut line, &frame);
+                assert_eq!(read_line(&line).is_ok(), used.contains(&byte), "{kind}, byte {byte}");
+            }
+        }
     }
 }

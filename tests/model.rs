@@ -1,6 +1,7 @@
 //! One small replica set that can be run: the cluster record, its steps and what comes back; the
-//! fourteen kinds are in `kinds.rs`. Written from document 01 and the rulings alone; `plain.rs` runs
-//! it over lines and `sessions.rs` steers by it. Record-level tests are in `model_tests.rs`.
+//! sixteen kinds are in `kinds.rs`. Written from document 01, request [1] of document 02 and the
+//! rulings alone; `plain.rs` runs it over lines and `sessions.rs` steers by it. Record-level tests
+//! are in `model_tests.rs`.
 
 use self::Condition::*;
 use self::Role::*;
@@ -10,8 +11,10 @@ pub const SERVERS: usize = 7;
 /// The most entries a log holds.
 pub const ENTRIES: usize = 32;
 /// How many kinds of step there are.
-pub const KINDS: usize = 14;
+pub const KINDS: usize = 16;
 const KEY_MAX: u8 = 15;
+/// The key of the entries that write nothing, and of no others; it is neither written nor read.
+const KEY_OF_NOTHING: u8 = 255;
 
 /// Ordered by p and then by l.
 #[derive(Clone, Copy, PartialEq, Eq, PartialOrd, Ord, Debug)]
@@ -74,6 +77,8 @@ pub enum Step {
     MajorityRead { a: u8, key: u8, time: Time },
     Acknowledged { a: u8, count: u8, position: u16, term: u16 },
     ClocksAgree,
+    WritesNothing { a: u8 },
+    NewestRead { a: u8, key: u8, position: u16, term: u16 },
 }
 
 /// The numbers of an answer to a step that was done.
@@ -103,11 +108,13 @@ pub enum Condition {
     MemberOutside,
     CountAbove,
     KeyAbove15,
+    KeyOfNothing,
     ValueZero,
     PositionZero,
     PositionAbove32,
     TermZero,
     NotPrimary,
+    PrimaryOfOtherTerm,
     NotSecondary,
     NotAMajority,
     OutsideItsSet,
@@ -136,15 +143,15 @@ pub enum Condition {
 pub const CONDITIONS: usize = OtherTerm as usize + 1;
 
 impl Condition {
-    /// The refusal number that document 01 gives this condition.
+    /// The refusal number that documents 01 and 02 give this condition.
     pub fn number(self) -> u8 {
         match self {
             WrongLength | WrongCharacter | UnknownKind | UnusedByte => 1,
             NotWellFormed => 2,
             StartBelow2 | StartAbove7 | ServerOutside | OtherServerOutside | SameServer => 3,
-            MemberOutside | CountAbove | KeyAbove15 | ValueZero => 3,
+            MemberOutside | CountAbove | KeyAbove15 | KeyOfNothing | ValueZero => 3,
             PositionZero | PositionAbove32 | TermZero => 3,
-            NotPrimary | NotSecondary => 4,
+            NotPrimary | PrimaryOfOtherTerm | NotSecondary => 4,
             NotAMajority | OutsideItsSet | MemberTermAbove | BehindAMember => 5,
             NotShorter | LastEntryDiffers => 5,
             LogEmpty | LastTermNotBelow | ABeginning | NothingPasses => 5,
@@ -178,8 +185,13 @@ impl Time {
 impl Entry {
     const ZERO: Entry = Entry { term: 0, key: 0, value: 0, time: Time::ZERO };
 
+    pub fn writes_nothing(&self) -> bool {
+        self.key == KEY_OF_NOTHING
+    }
+
     fn in_range(&self) -> bool {
-        self.term >= 1 && self.key <= KEY_MAX && self.value >= 1
+        let written = self.key <= KEY_MAX && self.value >= 1;
+        self.term >= 1 && (written || self.writes_nothing() && self.value == 0)
     }
 
     fn may_precede(&self, next: &Entry) -> bool {
@@ -198,6 +210,13 @@ impl Log {
     /// The entry at a position; none at 0 or past the length.
     pub fn entry(&self, position: usize) -> Option<&Entry> {
         self.held().get(position.wrapping_sub(1))
+    }
+
+    /// The entry of that term at that position, of which kinds 12 and 15 ask.
+    fn entry_of(&self, position: usize, term: u16) -> Result<&Entry, Condition> {
+        let entry = self.entry(position).ok_or(NoEntry)?;
+        refuse_if(entry.term != term, OtherTerm)?;
+        Ok(entry)
     }
 
     fn time_at(&self, position: usize) -> Time {
@@ -219,7 +238,7 @@ impl Log {
     }
 
     /// The value of the last entry for the key among the first so many; 0 if none.
-    fn value_of(&self, key: u8, among: usize) -> u16 {
+    pub fn value_of(&self, key: u8, among: usize) -> u16 {
         let last = self.entries[..among].iter().rev().find(|entry| entry.key == key);
         last.map_or(0, |entry| entry.value)
     }
@@ -296,6 +315,11 @@ impl Numbers {
     fn entry_at(position: usize, entry: &Entry) -> Numbers {
         Numbers { term: entry.term, time: entry.time, ..Numbers::place(position) }
     }
+
+    /// What a read shows: a value, and the time up to which it was read.
+    fn value(value: u16, time: Time) -> Numbers {
+        Numbers { number: value, time, ..Numbers::NONE }
+    }
 }
 
 impl Step {
@@ -315,6 +339,8 @@ impl Step {
             Step::MajorityRead { .. } => 11,
             Step::Acknowledged { .. } => 12,
             Step::ClocksAgree => 13,
+            Step::WritesNothing { .. } => 14,
+            Step::NewestRead { .. } => 15,
         }
     }
 }

@@ -1,5 +1,5 @@
 //! Record-level tests of the model: document 01's twelve facts, and the cases that no lines reach
-//! from a fresh start.
+//! from a fresh start. Those of kinds 14 and 15 are in `newest_tests.rs`.
 
 use super::*;
 
@@ -72,6 +72,16 @@ fn with(server: &Server, position: usize, entry: Entry) -> Server {
     server.log.entries[position - 1] = entry;
     server.term = server.term.max(entry.term);
     server
+}
+
+/// The server with another key and value in an entry that it holds.
+fn writing(server: &Server, position: usize, key: u8, value: u16) -> Server {
+    with(server, position, Entry { key, value, ..server.log.entries[position - 1] })
+}
+
+/// The server with an entry that writes nothing in place of one it holds.
+fn nothing_at(server: &Server, position: usize) -> Server {
+    writing(server, position, 255, 0)
 }
 
 #[test]
@@ -298,7 +308,14 @@ const BROKEN: &[fn(&mut Cluster)] = &[
     |c| c.servers[0] = with(&c.servers[0], 2, Entry { term: 3, ..entry(2, 2) }),
     |c| c.servers[0].term = 1,
     |c| c.servers[0].log.entries[1].key = 16,
+    |c| c.servers[0].log.entries[1].key = 254,
+    |c| c.servers[0].log.entries[1].key = 255,
     |c| c.servers[0].log.entries[1].value = 0,
+    |c| c.servers[0] = writing(&c.servers[0], 2, 255, 1),
+    |c| c.servers[0] = writing(&c.servers[0], 2, 0, 0),
+    |c| c.servers[0] = writing(&c.servers[0], 2, 15, 0),
+    |c| c.servers[0] = writing(&c.servers[0], 2, 16, 0),
+    |c| c.servers[0] = writing(&c.servers[0], 2, 254, 0),
     |c| c.servers[0].log.entries[1].time = c.servers[0].log.entries[0].time,
     |c| c.servers[0].log.entries[0].time = c.servers[0].log.entries[2].time,
     |c| c.servers[0].cluster_time = Time { p: 2, l: 2 },
@@ -308,6 +325,7 @@ const BROKEN: &[fn(&mut Cluster)] = &[
     |c| c.servers[0].log.entries[3].term = 1,
     |c| c.servers[0].log.entries[31].key = 1,
     |c| c.servers[1].log.entries[0].value = 1,
+    |c| c.servers[1].log.entries[0].key = 255,
     |c| c.servers[1].log.entries[1].time.p = 1,
     |c| c.servers[1].log.entries[2].time.l = 1,
     |c| c.servers[2].term = 1,
@@ -320,7 +338,7 @@ const BROKEN: &[fn(&mut Cluster)] = &[
 ];
 
 /// One step of each kind that looks at the record.
-const LOOKING: [Step; 13] = [
+const LOOKING: [Step; 15] = [
     Step::Elect { a: 0, set: 3 },
     Step::StepDown { a: 0 },
     Step::Hears { a: 0, b: 1 },
@@ -334,6 +352,8 @@ const LOOKING: [Step; 13] = [
     Step::MajorityRead { a: 0, key: 0, time: Time::ZERO },
     Step::Acknowledged { a: 0, count: 0, position: 1, term: 1 },
     Step::ClocksAgree,
+    Step::WritesNothing { a: 0 },
+    Step::NewestRead { a: 0, key: 5, position: 2, term: 2 },
 ];
 
 #[test]
@@ -360,6 +380,8 @@ fn odd_servers() -> Vec<Server> {
     odd.extend(others(entry(1, 1)).map(|other| with(&holding(&[1]), 1, other)));
     odd.extend([1, 2].map(|commit_point| Server { commit_point, ..late }));
     odd.extend([31, 32].map(|length| primary(3, &[3; ENTRIES][..length])));
+    odd.extend([1, 2].map(|position| nothing_at(&primary(2, &[1, 2]), position)));
+    odd.push(Server { commit_point: 2, ..nothing_at(&primary(2, &[1, 2]), 2) });
     odd
 }
 
@@ -375,3 +397,6 @@ fn every_step_from_an_odd_record_keeps_it_well_formed() {
         }
     }
 }
+
+#[path = "newest_tests.rs"]
+mod newest;

@@ -64,7 +64,7 @@ fn write_tally() -> io::Result<ExitCode> {
     each_line(standard_input(), |line| {
         let read = read_line(line);
         let answer = read.and_then(|read| step(&mut cluster, &read));
-        tally.count(read.ok(), answer);
+        tally.count(read.ok(), answer, &cluster);
         Ok(())
     })?;
     let all_reached = tally.write(&mut io::stdout().lock())?;
@@ -164,6 +164,13 @@ mod tests {
         whole
     }
 
+    /// Steps left, answers right.
+    fn is_answered(session: &[(&str, &str)]) {
+        let steps: Vec<&str> = session.iter().map(|pair| pair.0).collect();
+        let printed: String = session.iter().map(|pair| format!("{}\n", pair.1)).collect();
+        assert_eq!(answers(steps.join("\n").as_bytes()), printed);
+    }
+
     #[test]
     fn the_printed_session() {
         let session = [
@@ -177,9 +184,36 @@ mod tests {
             ("03010000000000000000000000", "000000000000000000"),
             ("0b010000050000000000010000", "000029000000010000"),
         ];
-        let steps: Vec<&str> = session.iter().map(|pair| pair.0).collect();
-        let printed: String = session.iter().map(|pair| format!("{}\n", pair.1)).collect();
-        assert_eq!(answers(steps.join("\n").as_bytes()), printed);
+        is_answered(&session);
+    }
+
+    /// A write is covered under one primary, another wins and asks for the newest value; the one
+    /// that it has overtaken asks too and is never answered about what it appends now.
+    #[test]
+    fn a_session_of_newest_reads() {
+        is_answered(&[
+            ("00030000000000000000000000", "000000000000000000"),
+            ("01000003000000000000000000", "000000000100000000"),
+            ("06000000050029000000000000", "000001000100010000"),
+            ("04010000000000000000000000", "000001000000000000"),
+            ("07000000000000000000000000", "000001000000000000"),
+            ("01010006000000000000000000", "000000000200000000"),
+            ("0e010000000000000000000000", "000002000200010001"),
+            ("0f010000050002000200000000", "080000000000000000"),
+            ("0e000000000000000000000000", "000002000100010001"),
+            ("07000000000000000000000000", "050000000000000000"),
+            ("0f000000050002000100000000", "080000000000000000"),
+            ("04020100000000000000000000", "000002000000000000"),
+            ("07010000000000000000000000", "000002000000000000"),
+            ("0f010000050002000200000000", "000029000000010001"),
+            ("0f010000060002000200000000", "000000000000010001"),
+            ("0c010000000002000200000000", "000002000200010001"),
+            ("0f000000050001000100000000", "000029000000010000"),
+            ("0f020000050002000200000000", "040000000000000000"),
+            ("0f010000050001000200000000", "0a0000000000000000"),
+            ("0f010000ff0002000200000000", "030000000000000000"),
+            ("0e010000ff0000000000000000", "010000000000000000"),
+        ]);
     }
 
     #[test]

@@ -199,7 +199,7 @@ impl Run {
             return self.junk();
         }
         let kind = self.kind();
-        if matches!(kind, 2 | 6 | 7) && !self.has_primary() && !self.prng.one_in(8) {
+        if matches!(kind, 2 | 6 | 7 | 14 | 15) && !self.has_primary() && !self.prng.one_in(8) {
             self.elect_of(self.everyone());
             return;
         }
@@ -227,13 +227,19 @@ impl Run {
         a
     }
 
-    /// A few writes, or rarely as many as the log takes.
+    /// A few entries, or rarely as many as the log takes.
     fn write_some(&mut self, a: u8) {
-        let writes = if self.prng.one_in(100) { ENTRIES } else { self.prng.below(3) };
-        for _ in 0..writes {
-            let write = self.write_by(a);
-            self.offer(write);
+        let entries = if self.prng.one_in(100) { ENTRIES } else { self.prng.below(3) };
+        for _ in 0..entries {
+            let entry = self.entry_by(a);
+            self.offer(entry);
         }
+    }
+
+    /// Asks a for the newest value, whether or not it can still tell.
+    fn ask_newest(&mut self, a: u8) {
+        let read = self.newest_read(a);
+        self.offer(read);
     }
 
     /// About half of the servers come after the one they are given.
@@ -245,20 +251,23 @@ impl Run {
         }
     }
 
-    /// Writes that others take over, commit and hear of.
+    /// Entries that others take over, commit, read up to and hear of.
     fn replicate(&mut self) {
         let a = self.primary();
         self.write_some(a);
         self.follow(a);
         self.offer(Step::Advances { a });
+        self.write_some(a);
+        self.ask_newest(a);
         for b in 0..self.count() as u8 {
-            let kind = self.prng.pick(&[3, 9, 11, 12]);
+            let kind = self.prng.pick(&[3, 9, 11, 12, 15]);
             let drawn = if kind == 3 { Step::Hears { a: b, b: a } } else { self.draw(kind) };
             self.offer(drawn);
         }
     }
 
-    /// An old primary keeps writing while another wins without it; then the two sides meet.
+    /// An old primary keeps writing and asking for the newest value while another wins without it;
+    /// then the two sides meet.
     fn split(&mut self) {
         let everyone = self.everyone();
         let old = self.elect_of(everyone);
@@ -271,6 +280,8 @@ impl Run {
         self.offer(Step::Advances { a: new });
         self.offer(Step::Advances { a: old });
         self.write_some(old);
+        self.ask_newest(old);
+        self.ask_newest(new);
         self.offer(Step::Hears { a: new, b: old });
         self.offer(Step::Hears { a: old, b: new });
         self.offer(Step::RollsBack { a: old, b: new });
@@ -279,15 +290,17 @@ impl Run {
         self.offer(Step::Advances { a: new });
     }
 
-    /// A log of 31 and of 32 at a write.
+    /// A log of 31 and of 32 at a write, or at what writes nothing.
     fn fill(&mut self) {
         let a = self.elect_of(self.everyone());
+        let nothing = self.prng.one_in(2);
         for _ in self.at(a).log.length..=ENTRIES {
-            let write = self.write_by(a);
-            self.say(write);
+            let entry = if nothing { Step::WritesNothing { a } } else { self.write_by(a) };
+            self.say(entry);
         }
         self.follow(a);
         self.offer(Step::Advances { a });
+        self.ask_newest(a);
     }
 
     /// A session of rounds in which a log is filled and rolled back again, so that l grows far
@@ -307,8 +320,8 @@ impl Run {
         self.offer(Step::Hears { a: old, b: latest });
         let new = self.elect_of(everyone & !(1 << old));
         for a in std::iter::once(new).chain((kept..ENTRIES).map(|_| old)) {
-            let write = self.write_by(a);
-            self.offer(write);
+            let entry = self.entry_by(a);
+            self.offer(entry);
         }
         self.offer(Step::Hears { a: old, b: new });
         self.offer(Step::RollsBack { a: old, b: new });

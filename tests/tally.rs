@@ -1,7 +1,8 @@
 //! The tally of a run: how often each kind was done and how often each condition refused, and
 //! whether everything that lines can reach was reached.
 
-use crate::model::{Answer, CONDITIONS, Condition, Condition::*, KINDS, Step};
+use self::Sight::*;
+use crate::model::{Answer, CONDITIONS, Cluster, Condition, Condition::*, KINDS, Numbers, Step};
 use std::io::{self, Write};
 
 /// One row a kind, and a last one for lines that are no frame.
@@ -54,13 +55,22 @@ const LISTS: [(&str, &[Condition]); ROWS] = [
     ),
     (
         "writes",
-        &[NotWellFormed, ServerOutside, KeyAbove15, ValueZero, NotPrimary, LogFull, TickAtLimit],
+        &[
+            NotWellFormed,
+            ServerOutside,
+            KeyOfNothing,
+            KeyAbove15,
+            ValueZero,
+            NotPrimary,
+            LogFull,
+            TickAtLimit,
+        ],
     ),
     ("advances", &[NotWellFormed, ServerOutside, NotPrimary, NothingPasses]),
     ("wall clock", &[NotWellFormed, ServerOutside, WallClockAtLimit]),
     ("restarts", &[NotWellFormed, ServerOutside]),
-    ("local read", &[NotWellFormed, ServerOutside, KeyAbove15, AppliedTimeBefore]),
-    ("majority read", &[NotWellFormed, ServerOutside, KeyAbove15, CommitTimeBefore]),
+    ("local read", &[NotWellFormed, ServerOutside, KeyOfNothing, KeyAbove15, AppliedTimeBefore]),
+    ("majority read", &[NotWellFormed, ServerOutside, KeyOfNothing, KeyAbove15, CommitTimeBefore]),
     (
         "acknowledged",
         &[
@@ -77,40 +87,123 @@ const LISTS: [(&str, &[Condition]); ROWS] = [
         ],
     ),
     ("clocks agree", &[NotWellFormed]),
+    ("writes nothing", &[NotWellFormed, ServerOutside, NotPrimary, LogFull, TickAtLimit]),
+    (
+        "newest read",
+        &[
+            NotWellFormed,
+            ServerOutside,
+            KeyOfNothing,
+            KeyAbove15,
+            PositionZero,
+            PositionAbove32,
+            TermZero,
+            NotPrimary,
+            PrimaryOfOtherTerm,
+            NoEntry,
+            OtherTerm,
+            CommitPointBelow,
+        ],
+    ),
     ("no frame", &[WrongLength, WrongCharacter, UnknownKind, UnusedByte]),
 ];
 
 /// What no lines reach from a fresh start, and above each the reason.
-const UNREACHABLE: [(usize, Condition); 2] = [
+const UNREACHABLE: [(usize, Condition); 3] = [
     // Demand 3: committed entries stay with a majority and with every log of a later last term.
     (5, CommonBelowCommitPoint),
-    // A write raises l by one at most and makes a log never held before. A log only gives way to
-    // one that isn't behind it, and elections need majorities, so that seven servers can make no
-    // more than C(36, 4) - 1 = 58,904 logs of up to 32 entries (counted by hand, not proved).
+    // A write or kind 14 raises l by one at most and makes a log never held before; nothing else
+    // does either. A log only gives way to one that isn't behind it, and elections need majorities,
+    // so that seven servers can make no more than C(36, 4) - 1 = 58,904 logs of up to 32 entries,
+    // whatever these write (counted by hand, not proved).
     (6, TickAtLimit),
+    (14, TickAtLimit),
 ];
+
+/// What else has to occur among the steps of a kind that were done: without it, lines wouldn't tell
+/// some wrong program from a right one.
+#[derive(Clone, Copy, Debug)]
+enum Sight {
+    AboutNothing,
+    AboutAWrite,
+    AtAnOvertakenPrimary,
+    ShowsAValue,
+    NotTheCommittedValue,
+    NotTheLogsValue,
+}
+
+const SIGHTS: [(usize, Sight); 8] = [
+    (12, AboutNothing),
+    (14, AtAnOvertakenPrimary),
+    (15, AboutNothing),
+    (15, AboutAWrite),
+    (15, AtAnOvertakenPrimary),
+    (15, ShowsAValue),
+    (15, NotTheCommittedValue),
+    (15, NotTheLogsValue),
+];
+
+impl Sight {
+    /// Whether it is in a step that was done with these numbers; the cluster is the one after it.
+    fn is_in(self, step: &Step, numbers: &Numbers, cluster: &Cluster) -> bool {
+        let (a, key, position) = match *step {
+            Step::Acknowledged { a, position, .. } => (a, 0, position),
+            Step::WritesNothing { a } => (a, 0, numbers.number),
+            Step::NewestRead { a, key, position, .. } => (a, key, position),
+            _ => return false,
+        };
+        let server = &cluster.servers[usize::from(a)];
+        let entry = server.log.entry(position.into());
+        let differs = |among: usize| server.log.value_of(key, among) != numbers.number;
+        match self {
+            AboutNothing => entry.is_some_and(|entry| entry.writes_nothing()),
+            AboutAWrite => entry.is_some_and(|entry| !entry.writes_nothing()),
+            AtAnOvertakenPrimary => cluster.counted().iter().any(|s| s.term > server.term),
+            ShowsAValue => numbers.number != 0,
+            NotTheCommittedValue => differs(server.commit_point),
+            NotTheLogsValue => differs(server.log.length),
+        }
+    }
+}
 
 pub struct Tally {
     done: [u64; ROWS],
     refused: [[u64; CONDITIONS]; ROWS],
+    seen: [u64; SIGHTS.len()],
 }
 
 impl Tally {
-    pub const NONE: Tally = Tally { done: [0; ROWS], refused: [[0; CONDITIONS]; ROWS] };
+    pub const NONE: Tally =
+        Tally { done: [0; ROWS], refused: [[0; CONDITIONS]; ROWS], seen: [0; SIGHTS.len()] };
 
-    /// Counts the answer to a line, whose step is none where it is no frame.
-    pub fn count(&mut self, step: Option<Step>, answer: Answer) {
+    /// Counts the answer to a line, whose step is none where it is no frame; the cluster is the one
+    /// after it.
+    pub fn count(&mut self, step: Option<Step>, answer: Answer, cluster: &Cluster) {
         let row = step.map_or(NO_FRAME, |step| step.kind().into());
         match answer {
             Ok(_) => self.done[row] += 1,
             Err(condition) => self.refused[row][condition as usize] += 1,
         }
+        if let (Some(step), Ok(numbers)) = (step, answer) {
+            for (times, (kind, sight)) in self.seen.iter_mut().zip(SIGHTS) {
+                *times += u64::from(kind == row && sight.is_in(&step, &numbers, cluster));
+            }
+        }
+    }
+
+    /// How often each sight of a row was seen.
+    fn seen_in(&self, row: usize) -> impl Iterator<Item = (Sight, u64)> + '_ {
+        let seen = SIGHTS.iter().zip(&self.seen);
+        seen.filter(move |((kind, _), _)| *kind == row).map(|((_, sight), times)| (*sight, *times))
     }
 
     /// Writes the tally, then what is amiss; true where nothing is.
     pub fn write(&self, output: &mut impl Write) -> io::Result<bool> {
         for (row, (kind, list)) in LISTS.iter().enumerate() {
             writeln!(output, "{row:2} {kind}: {} done", self.done[row])?;
+            for (sight, times) in self.seen_in(row) {
+                writeln!(output, "        {sight:?} {times}")?;
+            }
             for &condition in *list {
                 let times = self.refused[row][condition as usize];
                 writeln!(output, "     {:2} {condition:?} {times}", condition.number())?;
@@ -139,6 +232,8 @@ impl Tally {
             if row != NO_FRAME && self.done[row] == 0 {
                 amiss.push(format!("never: {kind} done"));
             }
+            let never = self.seen_in(row).filter(|(_, times)| *times == 0);
+            amiss.extend(never.map(|(sight, _)| format!("never: {kind} done, {sight:?}")));
             for &condition in *list {
                 let reachable = !UNREACHABLE.contains(&(row, condition));
                 let occurred = self.refused[row][condition as usize] > 0;
