@@ -51,7 +51,7 @@ module _ {𝓠 : Quorums} {v v′ : Seen} (K : Known 𝓠 v) (K′ : Known 𝓠 
   chosen : Chosen 𝓠 (K′ .ack) t k
   chosen = 𝓠 .more _ _ (λ j h. omega (arith, late .acks j t)) (set .chosen)
 
-  still : Open 𝓠 v′ (K′ .leads) (K′ .ack) t k
+  pub still : Open 𝓠 v′ (K′ .leads) (K′ .ack) t k
   still = chosen-open (K′ .inv) (new-pair (late .grown) (rooted-pair rooted)) chosen
 
   -- the lead of t has what i had
@@ -67,12 +67,16 @@ module _ {𝓠 : Quorums} {v v′ : Seen} (K : Known 𝓠 v) (K′ : Known 𝓠 
   majority-holds : 𝓠 .Most (λ j. Holds k (v i .log) (v′ j))
   majority-holds = 𝓠 .more _ _ acked-holds chosen
 
+  -- so does a primary whose term is not below that of the entry
+  pub lead-holds : (p : ℕ) → v′ p .primary ≡ true → t ≤ v′ p .term → Holds k (v i .log) (v′ p)
+  lead-holds p h l =
+      let R = K′ .inv .rule p h in
+      let H = kept-lead (K′ .inv) t k (v′ p .term) still l (omega (arith, R .0)) in
+      record { long = omega (arith, H .0, R .0); same = λ m mk. R .1 m (omega (arith, H .0, R .0)) ∙ H .1 m mk ∙ lead-has m mk }
+
   primary-holds : (p : ℕ) → v′ p .primary ≡ true → v i .term ≤ v′ p .term → Holds k (v i .log) (v′ p)
   primary-holds p h l =
-      let R = K′ .inv .rule p h in
-      let up = terms-rise (K .inv .tree) (K .inv .own i) k (set .within) in
-      let H = kept-lead (K′ .inv) t k (v′ p .term) still (omega (arith, up, K .inv .terms i)) (omega (arith, R .0)) in
-      record { long = omega (arith, H .0, R .0); same = λ m mk. R .1 m (omega (arith, H .0, R .0)) ∙ H .1 m mk ∙ lead-has m mk }
+      lead-holds p h (omega (arith, terms-rise (K .inv .tree) (K .inv .own i) k (set .within), K .inv .terms i))
 
   -- q's commit point and k agree on the shorter
   commits-agree : (q m : ℕ) → m ≤ k → m ≤ v′ q .commit → Agree m (v′ q .log) (v i .log)

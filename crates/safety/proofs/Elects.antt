@@ -11,7 +11,7 @@ use Rattle.safety.specs.Cluster.{ServerSeen, Seen, Holds, NotBehind}
 use Rattle.safety.specs.Steps.{SameLog, Elects}
 use Rattle.safety.proofs.Leads.{Leads, terms-rise, times-rise, log-begins, Grown, grown-rooted}
 use Rattle.safety.proofs.Leads.{Leading, led, led-lead, led-own, led-grown, led-tree}
-use Rattle.safety.proofs.Inv.{Acks, Open, LogOf, Has, Inv, upto-trans, acknowledged, rooted-at, still-behind, open-before, reach}
+use Rattle.safety.proofs.Inv.{Acks, Open, LogOf, Has, Still, Onward, Inv, upto-trans, acknowledged, rooted-at, still-behind, open-before, reach}
 use Rattle.safety.proofs.Moves.{same-settled}
 
 module _ {𝓠 : Quorums} {v v′ : Seen} {g : Leads} {ack : Acks} (inv : Inv 𝓠 v g ack)
@@ -50,7 +50,7 @@ module _ {𝓠 : Quorums} {v v′ : Seen} {g : Leads} {ack : Acks} (inv : Inv �
 
   -- a primary afterwards is the winner, or was one before in the same term
   abbrev Won : ℕ → ServerSeen → Type 0
-  Won i s = ((i ≡ a) × (s .term ≡ t)) ⊎ ((v i .primary ≡ true) × (s .term ≡ v i .term))
+  Won i s = ((i ≡ a) × (s .term ≡ t)) ⊎ Still (v i) s
 
   won : (i : ℕ) → v′ i .primary ≡ true → Won i (v′ i)
   won i = voters i (λ s. s .primary ≡ true → Won i s) (λ m p. inl (el .winner i m p, el .voted i m .term)) (λ p. inr (p, refl))
@@ -61,6 +61,13 @@ module _ {𝓠 : Quorums} {v v′ : Seen} {g : Leads} {ack : Acks} (inv : Inv �
       by-cases (decLe 1 (g .size t))
       (λ h. let m = 𝓠 .meet _ _ (inv .behind t h) votes in absurd (omega (arith, m .1, el .low (m .0) (m .2))))
       (λ h. omega arith)
+
+  pub elects-onward : Onward g v v′
+  elects-onward = record { raised = raised; primaries = λ i p. was i (won i p) }
+    where
+      was : (i : ℕ) → Won i (v′ i) → 0 < g .size (v′ i .term) → Still (v i) (v′ i)
+      was i (inl (e, te)) z = absurd (omega (arith, unwon, rw te at z))
+      was i (inr x) z = x
 
   leading : Leading g t (v a)
   leading =

@@ -37,6 +37,15 @@ LogOf s L l = (l ≡ suc (s .len)) × Agree (s .len) (s .log) L
 abbrev pub Has : ℕ → LogSeen → LogSeen → ℕ → Type 0
 Has n L M m = (n < m) × Agree n M L
 
+-- s is primary as r was, in the same term
+abbrev pub Still : ServerSeen → ServerSeen → Type 0
+Still r s = (r .primary ≡ true) × (s .term ≡ r .term)
+
+-- from v to v′ terms only rise, and who is primary in a term that was won already was so before
+pub record Onward (g : Leads) (v v′ : Seen) : Type 0 where
+  pub raised : (i : ℕ) → v i .term ≤ v′ i .term
+  pub primaries : (i : ℕ) → v′ i .primary ≡ true → 0 < g .size (v′ i .term) → Still (v i) (v′ i)
+
 pub record Inv (𝓠 : Quorums) (v : Seen) (g : Leads) (ack : Acks) : Type 0 where
   pub tree : Tree g
   -- a quorum has reached every term that was won
@@ -58,6 +67,15 @@ pub record Inv (𝓠 : Quorums) (v : Seen) (g : Leads) (ack : Acks) : Type 0 whe
 pub upto-trans : {t n u l w m : ℕ} → Upto t n u l → Upto u l w m → Upto t n w m
 upto-trans p q =
     record { le = omega arith; eq = λ h. let x = p .eq (omega arith) in let y = q .eq (omega arith) in omega arith }
+
+pub onward-trans : {v v′ v″ : Seen} {g g′ : Leads} → Grown g g′ → Onward g v v′ → Onward g′ v′ v″ → Onward g v v″
+onward-trans {v} {v″ = v″} {g = g} w p q = record { raised = λ i. omega (arith, p .raised i, q .raised i); primaries = was }
+  where
+    was : (i : ℕ) → v″ i .primary ≡ true → 0 < g .size (v″ i .term) → Still (v i) (v″ i)
+    was i h z =
+        let y = q .primaries i h (omega (arith, w .bigger (v″ i .term))) in
+        let x = p .primaries i (y .0) (rw (y .1) at z) in
+        (x .0, y .1 ∙ x .1)
 
 -- a server that holds what is settled in another's log has it settled too
 pub settled-holds : {𝓠 : Quorums} {ack : Acks} {r s : ServerSeen} {k : ℕ} → Holds k (r .log) s → Settled 𝓠 ack r k → Settled 𝓠 ack s k

@@ -13,6 +13,7 @@ pub mod Takes
 pub mod Reached
 pub mod Demand3
 pub mod Joins
+pub mod NewestSeen
 pub mod Views
 pub mod SeenQuiet
 pub mod SeenTakes

@@ -9,7 +9,7 @@ use Rattle.safety.specs.Quorum.{Quorums}
 use Rattle.safety.specs.Cluster.{ServerSeen, Seen, lastTermSeen, Upto}
 use Rattle.safety.specs.Steps.{SameLog, Rests}
 use Rattle.safety.proofs.Leads.{Leads}
-use Rattle.safety.proofs.Inv.{Acks, Settled, Open, Inv, settled-holds, still-open, still-behind}
+use Rattle.safety.proofs.Inv.{Acks, Settled, Open, Onward, Inv, settled-holds, still-open, still-behind}
 
 -- the term and the last term of s are t: it may acknowledge its log in t
 abbrev pub In : ServerSeen → ℕ → Type 0
@@ -24,6 +24,9 @@ pub record Moves (𝓠 : Quorums) (v v′ : Seen) (ack ack′ : Acks) : Type 0 w
 
 pub rests-refl : {r : ServerSeen} → Rests r r
 rests-refl = record { keeps = record { len = refl; log = refl }; raised = omega arith; role = λ p. p; unraised = λ p. omega arith }
+
+pub rests-onward : {g : Leads} {v v′ : Seen} → ((i : ℕ) → Rests (v i) (v′ i)) → Onward g v v′
+rests-onward h = record { raised = λ i. h i .raised; primaries = λ i p z. (h i .role p, h i .unraised p) }
 
 -- what is settled in a log stays so where the log is kept
 pub same-settled : {𝓠 : Quorums} {ack : Acks} {r s : ServerSeen} {k : ℕ} → SameLog r s → Settled 𝓠 ack r k → Settled 𝓠 ack s k

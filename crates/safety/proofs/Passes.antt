@@ -30,7 +30,7 @@ module _ (v : Seen) (ack : Acks) (i t : ℕ) where
   pub acked-grow : ack i t ≤ acked v ack i t
   acked-grow = acked-by (λ x. ack i t ≤ x) (λ h. omega arith) (λ h. omega arith)
 
-  acked-own : (acked v ack i t ≤ ack i t) ⊎ (In (v i) t × (acked v ack i t ≤ suc (v i .len)))
+  pub acked-own : (acked v ack i t ≤ ack i t) ⊎ (In (v i) t × (acked v ack i t ≤ suc (v i .len)))
   acked-own =
       acked-by (λ x. (x ≤ ack i t) ⊎ (In (v i) t × (x ≤ suc (v i .len))))
       (λ h. by-cases (decLe (ack i t) (suc (v i .len))) (λ y. inr (h, omega arith)) (λ y. inl (omega arith)))
@@ -65,11 +65,14 @@ module _ {𝓠 : Quorums} {v v′ : Seen} {g : Leads} {ack : Acks} (inv : Inv �
         unraised = λ p. omega (arith, h .term);
       }
 
+  pub passes-rests : (i : ℕ) → Rests (v i) (v′ i)
+  passes-rests i = replaced (h .others) (λ j s. Rests (v j) s) rests-a i (λ ne. rests-refl)
+
   pub passes-inv : Inv 𝓠 v′ g (acked v ack)
   passes-inv =
       moves-inv inv
       (record {
-        rests = λ i. replaced (h .others) (λ j s. Rests (v j) s) rests-a i (λ ne. rests-refl);
+        rests = passes-rests;
         acksGrow = acked-grow v ack;
         acksOwn = acked-own v ack;
         settled = λ i. replaced (h .others) (λ j s. Settled 𝓠 (acked v ack) (v j) (s .commit)) passed i (λ ne. before i);

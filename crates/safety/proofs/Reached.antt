@@ -1,6 +1,7 @@
--- Every view that a walk from a fresh cluster reaches has ghosts that keep the invariant, and they only grow.
+-- Every view that a walk from a fresh cluster reaches has ghosts that keep the invariant, and they only grow where they still can.
 -- Assumes nothing.
 use mathlib.Core.Path.{_≡_, refl, sym, _∙_}
+use mathlib.Core.Logic.{⊎-elim}
 use mathlib.Core.Bool.{true, false}
 use Prim.Native.Nat.{ℕ, zero, suc, _≤_, _<_}
 use native.Mathlib.Nat.{not-suc-le-zero}
@@ -9,12 +10,13 @@ use Rattle.safety.specs.Quorum.{Quorums}
 use Rattle.safety.specs.Cluster.{root, Seen}
 use Rattle.safety.specs.Steps.{Goes, elects, writes, takes, quiet, passes, Fresh, Walk, stop, go}
 use Rattle.safety.proofs.Leads.{Leads, Grown, grown-refl, grown-trans}
-use Rattle.safety.proofs.Inv.{Acks, Inv}
+use Rattle.safety.proofs.Inv.{Acks, Onward, Inv, onward-trans}
+use Rattle.safety.proofs.Moves.{rests-refl, rests-onward}
 use Rattle.safety.proofs.Quiet.{quiet-inv}
-use Rattle.safety.proofs.Passes.{acked-grow, passes-inv}
-use Rattle.safety.proofs.Elects.{elects-inv, elects-grown}
-use Rattle.safety.proofs.Writes.{writes-inv, writes-grown}
-use Rattle.safety.proofs.Takes.{takes-inv}
+use Rattle.safety.proofs.Passes.{acked-grow, acked-own, passes-rests, passes-inv}
+use Rattle.safety.proofs.Elects.{elects-inv, elects-grown, elects-onward}
+use Rattle.safety.proofs.Writes.{writes-inv, writes-grown, writes-onward}
+use Rattle.safety.proofs.Takes.{takes-inv, takes-onward}
 
 -- ghosts that go with v
 pub record Known (𝓠 : Quorums) (v : Seen) : Type 0 where
@@ -22,10 +24,12 @@ pub record Known (𝓠 : Quorums) (v : Seen) : Type 0 where
   pub ack : Acks
   pub inv : Inv 𝓠 v leads ack
 
--- what was led or acknowledged stays so
+-- what was led or acknowledged stays so, and a server that has left a term acknowledges nothing more in it
 pub record Later {𝓠 : Quorums} {v v′ : Seen} (K : Known 𝓠 v) (K′ : Known 𝓠 v′) : Type 0 where
   pub grown : Grown (K .leads) (K′ .leads)
+  pub onward : Onward (K .leads) v v′
   pub acks : (i t : ℕ) → K .ack i t ≤ K′ .ack i t
+  pub frozen : (i t : ℕ) → t < v i .term → K′ .ack i t ≤ K .ack i t
 
 -- ---- a fresh cluster: term 0 has the empty log for its lead, and everybody has acknowledged that
 
@@ -79,25 +83,43 @@ module _ (𝓠 : Quorums) {v : Seen} (f : Fresh v) where
 abbrev pub Next : {𝓠 : Quorums} {v : Seen} → Known 𝓠 v → Seen → Type 0
 Next {𝓠} K v′ = (K′ : Known 𝓠 v′) × Later K K′
 
-later-leads : {𝓠 : Quorums} {v v′ : Seen} (K : Known 𝓠 v) {g : Leads} → Grown (K .leads) g → Inv 𝓠 v′ g (K .ack) → Next K v′
-later-leads K w i = (record { leads = _; ack = K .ack; inv = i }, record { grown = w; acks = λ i t. omega arith })
+later-leads : {𝓠 : Quorums} {v v′ : Seen} (K : Known 𝓠 v) {g : Leads} → Grown (K .leads) g → Onward (K .leads) v v′ → Inv 𝓠 v′ g (K .ack)
+    → Next K v′
+later-leads K w o i = (
+  record { leads = _; ack = K .ack; inv = i },
+  record { grown = w; onward = o; acks = λ i t. omega arith; frozen = λ i t h. omega arith },
+)
+
+later-trans : {𝓠 : Quorums} {v v′ v″ : Seen} {K : Known 𝓠 v} {K′ : Known 𝓠 v′} {K″ : Known 𝓠 v″} → Later K K′ → Later K′ K″ → Later K K″
+later-trans p q =
+    record {
+      grown = grown-trans (p .grown) (q .grown);
+      onward = onward-trans (p .grown) (p .onward) (q .onward);
+      acks = λ i t. omega (arith, p .acks i t, q .acks i t);
+      frozen = λ i t h. omega (arith, p .frozen i t h, q .frozen i t (omega (arith, p .onward .raised i)));
+    }
 
 goes-known : {𝓠 : Quorums} {v v′ : Seen} (K : Known 𝓠 v) → Goes 𝓠 v v′ → Next K v′
-goes-known K (elects a m h) = later-leads K (elects-grown (K .inv) h) (elects-inv (K .inv) h)
-goes-known K (writes a e h) = later-leads K (writes-grown (K .inv) h) (writes-inv (K .inv) h)
-goes-known K (takes a b h) = later-leads K grown-refl (takes-inv (K .inv) h)
-goes-known K (quiet h) = later-leads K grown-refl (quiet-inv (K .inv) h)
-goes-known {v = v} K (passes a n h) =
-    (record { leads = K .leads; ack = _; inv = passes-inv (K .inv) h }, record { grown = grown-refl; acks = acked-grow v (K .ack) })
+goes-known K (elects a m h) = later-leads K (elects-grown (K .inv) h) (elects-onward (K .inv) h) (elects-inv (K .inv) h)
+goes-known K (writes a e h) = later-leads K (writes-grown (K .inv) h) (writes-onward (K .inv) h) (writes-inv (K .inv) h)
+goes-known K (takes a b h) = later-leads K grown-refl (takes-onward (K .inv) h) (takes-inv (K .inv) h)
+goes-known K (quiet h) = later-leads K grown-refl (rests-onward (λ i. h i .rests)) (quiet-inv (K .inv) h)
+goes-known {v = v} K (passes a n h) = (
+  record { leads = K .leads; ack = _; inv = passes-inv (K .inv) h },
+  record {
+    grown = grown-refl;
+    onward = rests-onward (passes-rests (K .inv) h);
+    acks = acked-grow v (K .ack);
+    frozen = λ i t l. ⊎-elim (λ x. x) (λ x. absurd (omega arith)) (acked-own v (K .ack) i t);
+  },
+)
 
 pub walk-known : {𝓠 : Quorums} {v v′ : Seen} (K : Known 𝓠 v) → Walk 𝓠 v v′ → Next K v′
-walk-known K stop = later-leads K grown-refl (K .inv)
+walk-known K stop = later-leads K grown-refl (rests-onward (λ i. rests-refl)) (K .inv)
 walk-known K (go w h) =
     let x = walk-known K w in
     let y = goes-known (x .0) h in
-    let p = x .1 in
-    let q = y .1 in
-    (y .0, record { grown = grown-trans (p .grown) (q .grown); acks = λ i t. omega (arith, p .acks i t, q .acks i t) })
+    (y .0, later-trans (x .1) (y .1))
 
 pub reached : {𝓠 : Quorums} {u v : Seen} → Fresh u → Walk 𝓠 u v → Known 𝓠 v
 reached {𝓠} f w = walk-known (fresh-known 𝓠 f) w .0

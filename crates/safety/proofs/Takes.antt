@@ -1,16 +1,16 @@
 -- A pull or a rollback keeps the invariant (kinds 4 and 5).
 -- Assumes nothing.
-use mathlib.Core.Path.{_≡_, refl, sym, _∙_}
+use mathlib.Core.Path.{_≡_, refl, ap, sym, _∙_}
 use mathlib.Core.Logic.{inl, by-cases}
 use mathlib.Core.Bool.{true, false}
 use Prim.Native.Nat.{ℕ, _≤_, max}
 use native.Mathlib.Decide.{decLe}
 use native.Mathlib.Omega.{arith}
 use Rattle.safety.specs.Quorum.{Quorums}
-use Rattle.safety.specs.Cluster.{LogSeen, Seen, lastTermSeen, Holds, NotBehind}
+use Rattle.safety.specs.Cluster.{LogSeen, ServerSeen, Seen, lastTermSeen, Holds, NotBehind}
 use Rattle.safety.specs.Steps.{Takes}
 use Rattle.safety.proofs.Leads.{Leads, Rooted, term-of, rooted-agree}
-use Rattle.safety.proofs.Inv.{Acks, Settled, Open, Inv, settled-holds, still-open, replaced, reaches}
+use Rattle.safety.proofs.Inv.{Acks, Settled, Open, Onward, Inv, settled-holds, still-open, replaced, reaches}
 use Rattle.safety.proofs.Inv.{still-behind, not-lost, may-copy}
 
 module _ {𝓠 : Quorums} {v v′ : Seen} {g : Leads} {ack : Acks} (inv : Inv 𝓠 v g ack) {a b : ℕ} (h : Takes v v′ a b) where
@@ -55,6 +55,13 @@ module _ {𝓠 : Quorums} {v v′ : Seen} {g : Leads} {ack : Acks} (inv : Inv �
     where
       clash : v′ a .primary ≡ true → ⊥
       clash p = let q : true ≡ false = sym p ∙ h .role ∙ h .secondary in let z : _≡_ {A = ℕ} 0 1 = cc in omega arith
+
+  pub takes-onward : Onward g v v′
+  takes-onward =
+      record {
+        raised = raised;
+        primaries = λ i p z. (rw (primaries i p) at p, ap (λ (s : ServerSeen). s .term) (primaries i p));
+      }
 
   pub takes-inv : Inv 𝓠 v′ g ack
   takes-inv =

@@ -11,7 +11,7 @@ use Rattle.safety.specs.Cluster.{EntrySeen, Seen, lastTermSeen, NotBehin
 use Rattle.safety.specs.Steps.{Writes}
 use Rattle.safety.proofs.Leads.{Leads, Rooted, rooted-agree, terms-rise, times-rise, log-begins, Grown, grown-rooted}
 use Rattle.safety.proofs.Leads.{Leading, led, led-lead, led-own, led-grown, led-rooted, led-tree}
-use Rattle.safety.proofs.Inv.{Acks, Settled, Open, LogOf, Has, Inv, settled-holds, acknowledged, replaced, reaches}
+use Rattle.safety.proofs.Inv.{Acks, Settled, Open, LogOf, Has, Onward, Inv, settled-holds, acknowledged, replaced, reaches}
 use Rattle.safety.proofs.Inv.{rooted-at, still-behind, open-before}
 
 module _ {𝓠 : Quorums} {v v′ : Seen} {g : Leads} {ack : Acks} (inv : Inv 𝓠 v g ack) {a : ℕ} {e : EntrySeen} (w : Writes v v′ a e) where
@@ -73,6 +73,9 @@ module _ {𝓠 : Quorums} {v v′ : Seen} {g : Leads} {ack : Acks} (inv : Inv �
 
   raised : (i : ℕ) → v i .term ≤ v′ i .term
   raised i = omega (arith, terms-same i)
+
+  pub writes-onward : Onward g v v′
+  writes-onward = record { raised = raised; primaries = λ i p z. (rw (roles-same i) at p, terms-same i) }
 
   -- a term that is won now was won before
   won : (u : ℕ) → 0 < g′ .size u → 0 < g .size u

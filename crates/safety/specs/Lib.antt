@@ -5,5 +5,6 @@ pub mod Quorum
 pub mod Cluster
 pub mod Steps
 pub mod Demand3
+pub mod NewestSeen
 pub mod Time
 pub mod View
