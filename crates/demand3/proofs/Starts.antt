@@ -1,26 +1,23 @@
 -- A start line that is answered with done begins a fresh cluster of two to seven servers. Assumes nothing.
 use mathlib.Core.Path.{_≡_, refl, ap, sym, _∙_}
-use mathlib.Core.Logic.{⊎-elim}
 use mathlib.Core.Bool.{true, false}
 use Prim.Native.Nat.{ℕ, _≤_}
-use native.Mathlib.Omega.{arith}
 use borrow.Author.Tests.{leb-true}
 use Rattle.base.proofs.Bools.{not-both}
 use Rattle.cluster.specs.declared.Cluster.{Cluster}
 use Rattle.cluster.specs.Servers.{fewestServers, mostServers, freshCluster}
-use Rattle.steps.specs.declared.Answer.{Answer}
-use Rattle.steps.specs.declared.Answer.the-variants.{Done, Refused}
+use Rattle.steps.specs.declared.Answer.the-variants.{Done}
 use Rattle.steps.specs.declared.Outcome.{Outcome}
 use Rattle.steps.specs.declared.Step.{Step}
 use Rattle.steps.specs.declared.Step.the-variants.{Start, Elect, StepDown, Hears, Pulls, RollsBack, Writes, Advances, WallClock, Restarts, LocalRead, MajorityRead, Acknowledged, ClocksAgree}
 use Rattle.steps.specs.Reasons.{Clear}
 use Rattle.wholes.specs.Starts.{startRules}
 use Rattle.rules.specs.Rules.{rowOf, isStart, stepOf}
-use Rattle.rules.proofs.Outcomes.{StepRefused, step-cases}
 use Rattle.rules.proofs.Keeps.{start-fresh}
 use Rattle.frames.specs.declared.ReadStep.the-variants as R
 use Rattle.frames.specs.Steps.{readStep}
 use Rattle.replay.specs.Texts.{respond, answerTo}
+use Rattle.safety.proofs.Answered.{answered-done}
 use Rattle.demand3.specs.Promise.{Line, Begins}
 
 -- a start names its servers
@@ -59,12 +56,7 @@ clear-fresh c n k = record { fewest = leb-true fewestServers n (k .0); most = le
 
 start-clear : (c : Cluster) (n : ℕ) → stepOf c (Start n) .answer ≡ Done → Clear (startRules n)
 unfolding rowOf
-start-clear c n d = ⊎-elim (λ k. k .clear) refused (step-cases c (Start n))
-  where
-    refused : StepRefused c (Start n) → Clear (startRules n)
-    refused k =
-        let q : _≡_ {A = Answer} (Refused (k .refusal)) Done = sym (answer-of (k .is)) ∙ d in
-        let z : _≡_ {A = ℕ} 0 1 = cc in absurd (omega arith)
+start-clear c n d = answered-done c (Start n) d refl .clear
 
 pub begins-fresh : (c : Cluster) (line : Line) (n : ℕ) → Begins c line n → Fresh (answerTo c line .cluster) n
 begins-fresh c line n b =

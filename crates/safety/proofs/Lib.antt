@@ -20,5 +20,6 @@ pub mod SeenTakes
 pub mod SeenWrites
 pub mod SeenMajorities
 pub mod Stepped
+pub mod Answered
 pub mod Promise
 pub mod Example

@@ -26,7 +26,7 @@ pub rests-refl : {r : ServerSeen} → Rests r r
 rests-refl = record { keeps = record { len = refl; log = refl }; raised = omega arith; role = λ p. p; unraised = λ p. omega arith }
 
 pub rests-onward : {g : Leads} {v v′ : Seen} → ((i : ℕ) → Rests (v i) (v′ i)) → Onward g v v′
-rests-onward h = record { raised = λ i. h i .raised; primaries = λ i p z. (h i .role p, h i .unraised p) }
+rests-onward h = record { raised = λ i. h i .raised; primaries = λ i p z. (h i .role p, omega (arith, h i .unraised p)) }
 
 -- what is settled in a log stays so where the log is kept
 pub same-settled : {𝓠 : Quorums} {ack : Acks} {r s : ServerSeen} {k : ℕ} → SameLog r s → Settled 𝓠 ack r k → Settled 𝓠 ack s k

@@ -29,21 +29,28 @@ module _ {𝓠 : Quorums} {v v′ : Seen} (K : Known 𝓠 v) (K′ : Known 𝓠 
   size-t : K .leads .size t ≡ m
   size-t = K .inv .rule a primary .0
 
+  -- the facts that bind q's log to a's; omega names the one that is missing
+  same-term : v′ q .term ≡ t
+  same-term = omega (arith, answers .term)
+
+  reach : m ≤ v′ q .commit
+  reach = omega (arith, answers .reached)
+
   -- the term was won already in v, so q was its primary then, and it has one
   same-server : q ≡ a
   same-server =
-      let p = late .onward .primaries q (search (answers .primary)) (rw (answers .term) (omega (arith, size-t))) in
-      K .inv .one q a (p .0) primary (omega (arith, p .1, answers .term))
+      let p = late .onward .primaries q (search (answers .primary)) (rw same-term (omega (arith, size-t))) in
+      K .inv .one q a (p .0) primary (omega (arith, p .1, same-term))
 
   -- the commit point stands on an entry of that term, so a quorum has acknowledged position m in it
   chosen : Chosen 𝓠 (K′ .ack) t m
   chosen =
       let c = K′ .inv .settled q in
       let r = rooted-at (K′ .inv) q (v′ q .commit) (c .within) in
-      let up = terms-rise (K′ .inv .tree) r m (answers .reached) in
+      let up = terms-rise (K′ .inv .tree) r m reach in
       let top = terms-rise (K′ .inv .tree) (K′ .inv .own q) (v′ q .commit) (c .within) in
-      let e : v′ q .log (v′ q .commit) .term ≡ t = omega (arith, answers .entry, answers .term, K′ .inv .terms q) in
-      𝓠 .more _ _ (λ j h. omega (arith, answers .reached)) (rw e at (c .chosen))
+      let e : v′ q .log (v′ q .commit) .term ≡ t = omega (arith, answers .entry, same-term, K′ .inv .terms q) in
+      𝓠 .more _ _ (λ j h. omega (arith, reach)) (rw e at (c .chosen))
 
   -- nobody could acknowledge it up to v, and who has left the term by then never will
   in-time : (j : ℕ) → m < K′ .ack j t → v j .term ≤ t

@@ -2,10 +2,8 @@
 -- Assumes nothing.
 use mathlib.Core.Path.{_≡_, refl, ap, sym, _∙_}
 use mathlib.Core.Bool.{true, false}
-use mathlib.Core.Logic.{by-cases, ⊎-elim}
 use mathlib.Core.List.{List, [], _∷_}
 use Prim.Native.Nat.{ℕ, _<_, _≤_}
-use native.Mathlib.Decide.{decLe}
 use native.Mathlib.Omega.{arith}
 use lib.ListN.{length}
 use lib.Seq.{length-take-le}
@@ -14,11 +12,10 @@ use borrow.Author.Tests.{ltb-true, not-true}
 use Rattle.clock.specs.declared.Time.{Time}
 use Rattle.clock.specs.Times.{isBefore}
 use Rattle.clock.proofs.Order.{not-after-trans}
-use Rattle.log.specs.declared.Entry.{Entry}
-use Rattle.log.specs.Entries.{latestValue}
+use Rattle.log.specs.Entries.{entryAt, latestValue}
 use Rattle.log.specs.Logs.{live, lengthOf}
 use Rattle.log.specs.Ranges.{FitsLog}
-use Rattle.log.proofs.Latest.{found, latest-found, found-le, found-key, found-last}
+use Rattle.log.proofs.Latest.{found, latest-found}
 use Rattle.log.proofs.Live.{entryAt-take}
 use Rattle.cluster.specs.declared.Server.{Server}
 use Rattle.cluster.specs.declared.Cluster.{Cluster}
@@ -26,12 +23,8 @@ use Rattle.cluster.specs.Servers.{serverCount, serverAt, freshCluster}
 use Rattle.cluster.proofs.Fresh.{fits-fresh}
 use Rattle.steps.specs.declared.Step.{Step}
 use Rattle.steps.specs.declared.Step.the-variants.{MajorityRead}
-use Rattle.steps.specs.declared.Answer.{Answer}
-use Rattle.steps.specs.declared.Answer.the-variants.{Value, Refused}
-use Rattle.steps.specs.declared.Refusal.{Refusal}
-use Rattle.steps.specs.declared.Outcome.{Outcome}
+use Rattle.steps.specs.declared.Answer.the-variants.{Value}
 use Rattle.singles.specs.MajorityRead.{commitTime, covered}
-use Rattle.rules.proofs.Outcomes.{StepDone, step-cases}
 use Rattle.rules.specs.Rules.{rowOf, stepOf}
 use Rattle.rules.proofs.Keeps.{step-fits}
 use Rattle.safety.specs.Cluster.{Holds}
@@ -44,33 +37,23 @@ use Rattle.safety.proofs.Quorum.{majorities, majority-count}
 use Rattle.safety.proofs.Time.{stamp-before, not-before-stamp}
 use Rattle.safety.proofs.Joins.{walk-on, commit-within}
 use Rattle.safety.proofs.Demand3.{demand3}
+use Rattle.safety.proofs.Answered.{key-of, value-of, found-at, answered-done}
 use Rattle.safety.proofs.Views.{fresh-seen, fits-time, same-entry, holds-beginning}
 use Rattle.safety.proofs.Stepped.{Now, step-next, never-9}
 
 -- ---- a read that is answered
 
 -- the position that a read at s looks at is that of the last entry for the key
-found-is : (s : Server) (key p : ℕ) → 1 ≤ p → s .head .commit ≤ lengthOf (s .log) → LastFor (seenServer s .log) key (s .head .commit) p → found key (covered s) ≡ p
-found-is s key p one within h =
-    by-cases (decLe (found key es) p) (λ l. by-cases (decLe p (found key es)) (λ m. omega arith) (λ m. absurd (lower (omega arith)))) (λ l. absurd (higher (omega arith)))
+found-is : (s : Server) (key p : ℕ) → s .head .commit ≤ lengthOf (s .log) → LastFor (seenServer s .log) key (s .head .commit) p → found key (covered s) ≡ p
+found-is s key p within h =
+    found-at key (covered s) p (omega (arith, long, h .within)) (λ one. key-of (same p (h .within)) ∙ h .key)
+    (λ j l m e. h .last j l (omega (arith, long)) (key-of (sym (same j (omega (arith, long)))) ∙ e))
   where
-    es : List Entry
-    es = covered s
-
-    long : length es ≡ s .head .commit
+    long : length (covered s) ≡ s .head .commit
     long = length-take-le (s .head .commit) (live (s .log)) within
 
-    lower : found key es < p → ⊥
-    lower l = found-last key es p l (omega (arith, long, h .within)) (ap (λ (e : Entry). e .key) (entryAt-take (s .head .commit) p (live (s .log)) (h .within)) ∙ h .key)
-
-    higher : p < found key es → ⊥
-    higher l =
-        let f : found key es ≤ s .head .commit = omega (arith, found-le key es, long) in
-        h .last (found key es) l f
-        (ap (λ (e : Entry). e .key) (sym (entryAt-take (s .head .commit) (found key es) (live (s .log)) f)) ∙ found-key key es (omega arith))
-
-value-of : {d e : Entry} → d ≡ e → d .value ≡ e .value
-value-of q = ap (λ (e : Entry). e .value) q
+    same : (j : ℕ) → j ≤ s .head .commit → entryAt (covered s) j ≡ entryAt (live (s .log)) j
+    same j l = entryAt-take (s .head .commit) j (live (s .log)) l
 
 -- what a read gives where it is answered
 record Answered (c : Cluster) (q key : ℕ) (asked : Time) (v : ℕ) : Type 0 where
@@ -80,16 +63,9 @@ record Answered (c : Cluster) (q key : ℕ) (asked : Time) (v : ℕ) : Type 0 wh
 
 answered : (c : Cluster) (q key : ℕ) (asked : Time) (v : ℕ) (t : Time) → stepOf c (MajorityRead q key asked) .answer ≡ Value v t → Answered c q key asked v
 unfolding rowOf
-answered c q key asked v t a = ⊎-elim is-done (λ d. refused (answers (d .is))) (step-cases c (MajorityRead q key asked))
-  where
-    answers : {o : Outcome} → stepOf c (MajorityRead q key asked) ≡ o → o .answer ≡ Value v t
-    answers e = sym (ap (λ (o : Outcome). o .answer) e) ∙ a
-
-    refused : {r : Refusal} → _≡_ {A = Answer} (Refused r) (Value v t) → Answered c q key asked v
-    refused e = let z : _≡_ {A = ℕ} 0 1 = cc in absurd (omega arith)
-
-    is-done : StepDone c (MajorityRead q key asked) → Answered c q key asked v
-    is-done d = record { below = d .clear .0; reached = not-true _ (d .clear .1 .1 .0); value = cc (answers (d .is)) }
+answered c q key asked v t a =
+    let d = answered-done c (MajorityRead q key asked) a refl in
+    record { below = d .clear .0; reached = not-true _ (d .clear .1 .1 .0); value = cc (d .answers) }
 
 -- ---- what is covered once
 
@@ -119,7 +95,7 @@ module _ {n : ℕ} {some : 0 < n} {x y : Cluster} (X : Now n some x) (Y : Now n 
       (not-after-trans (e .time) asked (commitTime t) late (a .reached)) in
       let S = seen .reads q (stamp (e .time)) (omega arith) in-time in
       let p = S .found in
-      let f = found-is t (e .key) p (omega (arith, S .from)) (commit-within (fresh-seen n) (Y .walk) q) (S .read) in
+      let f = found-is t (e .key) p (commit-within (fresh-seen n) (Y .walk) q) (S .read) in
       record {
         position = p;
         from = S .from;

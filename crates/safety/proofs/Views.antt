@@ -2,6 +2,7 @@
 -- Assumes nothing.
 use mathlib.Core.Path.{_≡_, refl, ap, sym, _∙_}
 use mathlib.Core.Bool.{true}
+use mathlib.Core.List.{List}
 use mathlib.Core.Logic.{⊎-elim, by-cases}
 use Prim.Native.Nat.{ℕ, zero, suc, _<_, _≤_}
 use native.Mathlib.Decide.{ℕ-discrete}
@@ -114,12 +115,19 @@ same-entry d e f g q =
 
 -- ---- the first entries of s, which t holds
 
+-- the first k entries of a list are a beginning of any list that has them too
+pub first-beginning : (k : ℕ) (xs ys : List Entry) → k ≤ length xs → k ≤ length ys → take k xs ≡ take k ys → isBeginning (take k xs) ys ≡ true
+first-beginning k xs ys hx hy e =
+    let n : length (take k xs) ≡ k = length-take-le k xs hx in
+    let le = common-longest k (take k xs) ys (omega arith) hy (take-take k k xs (omega arith) ∙ e) in
+    eq-eqb (commonBeginning (take k xs) ys) (length (take k xs)) (omega (arith, common-le (take k xs) ys .0))
+
 module _ (s t : Server) (f : FitsLog (s .log)) (g : FitsLog (t .log)) {k : ℕ} (long : k ≤ lengthOf (s .log)) (h : Holds k (seenServer s .log) (seenServer t)) where
   -- position by position
   holds-at : (n : ℕ) → n ≤ k → entryAt (live (t .log)) n ≡ entryAt (live (s .log)) n
   holds-at n l = same-entry _ _ (fits-time (t .log) g n) (fits-time (s .log) f n) (h .same n l)
 
-  first-same : take k (live (s .log)) ≡ take k (live (t .log))
+  pub first-same : take k (live (s .log)) ≡ take k (live (t .log))
   first-same = same-first k (live (s .log)) (live (t .log)) long (h .long) (λ n l. sym (holds-at n l))
 
   -- they are within the longest common beginning
@@ -128,8 +136,4 @@ module _ (s t : Server) (f : FitsLog (s .log)) (g : FitsLog (t .log)) {k : ℕ} 
 
   -- and all of them are a beginning of t's log
   pub holds-beginning : isBeginning (take k (live (s .log))) (live (t .log)) ≡ true
-  holds-beginning =
-      let xs = take k (live (s .log)) in
-      let n : length xs ≡ k = length-take-le k (live (s .log)) long in
-      let le = common-longest k xs (live (t .log)) (omega arith) (h .long) (take-take k k (live (s .log)) (omega arith) ∙ first-same) in
-      eq-eqb (commonBeginning xs (live (t .log))) (length xs) (omega (arith, common-le xs (live (t .log)) .0))
+  holds-beginning = first-beginning k (live (s .log)) (live (t .log)) long (h .long) first-same
