@@ -8,7 +8,7 @@ use native.Mathlib.Omega.{arith}
 use Rattle.safety.specs.Quorum.{Quorums}
 use Rattle.safety.specs.Cluster.{LogSeen, Agree, Seen, Holds, Others}
 use Rattle.safety.specs.Steps.{Copies, stays, Quiet, Goes, quiet, Fresh, Walk, stop, go}
-use Rattle.safety.proofs.Leads.{term-of}
+use Rattle.safety.proofs.Leads.{term-of, times-rise}
 use Rattle.safety.proofs.Inv.{replaced, not-lost, matching, may-copy}
 use Rattle.safety.proofs.Moves.{rests-refl}
 use Rattle.safety.proofs.Reached.{reached}
@@ -48,6 +48,10 @@ module _ {𝓠 : Quorums} {u v : Seen} (f : Fresh u) (w : Walk 𝓠 u v) (a b : 
   no-refusal-9 c =
       let i = reached f w .inv in
       not-lost i a b (v a .commit) (may-copy i a b c) (i .settled a)
+
+-- times rise along a log
+pub times-ordered : {𝓠 : Quorums} {u v : Seen} → Fresh u → Walk 𝓠 u v → (a m n : ℕ) → m < n → n ≤ v a .len → v a .log m .time < v a .log n .time
+times-ordered f w a = let i = reached f w .inv in times-rise (i .tree) (i .own a)
 
 -- a commit point is within the log
 pub commit-within : {𝓠 : Quorums} {u v : Seen} → Fresh u → Walk 𝓠 u v → (a : ℕ) → v a .commit ≤ v a .len

@@ -22,4 +22,5 @@ pub mod SeenMajorities
 pub mod Stepped
 pub mod Answered
 pub mod Promise
+pub mod Newest
 pub mod Example

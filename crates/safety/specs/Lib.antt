@@ -1,6 +1,7 @@
 -- `Promise` is demand 3 as it is promised of records. The others are the safety theory's own words, from quorums up to demand 3 over a view
 -- of the record: nobody has to believe those, since `Promise` is stated without them. Assumes nothing.
 pub mod Promise
+pub mod Newest
 pub mod Quorum
 pub mod Cluster
 pub mod Steps
