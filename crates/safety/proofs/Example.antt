@@ -23,7 +23,7 @@ use Rattle.steps.specs.declared.Answer.{Answer}
 use Rattle.steps.specs.declared.Answer.the-variants.{Done, Value, Refused}
 use Rattle.steps.specs.declared.Refusal.{Refusal}
 use Rattle.pairs.specs.Pulls.{tookOf}
-use Rattle.singles.specs.Writes.{wroteOf}
+use Rattle.singles.specs.Appends.{stampedOf}
 use Rattle.wholes.specs.Elects.{notBehind, mayVote, allMayVote}
 use Rattle.counts.specs.Advances.{backs, passes, highestPassing}
 use Rattle.rules.specs.Rules.{rowOf, coreOf, stepOf}
@@ -44,7 +44,7 @@ build term value l = record { term = term; key = 5; value = value; time = record
 
 -- the record at the moment, before the rollback, and at the end
 pub moment : Cluster
-unfolding every count highest eachFrom isBefore sameTime laterOf tickOf sameEntry entryAt equalAt commonBeginning latestValue appended entryOk follows placeOk inOrder restZero logOk startedOf votedOf member isWithin numbersOk countedOk zeroOk serverOk wellFormed tookOf wroteOf notBehind mayVote allMayVote backs passes highestPassing rowOf coreOf stepOf
+unfolding every count highest eachFrom isBefore sameTime laterOf tickOf sameEntry entryAt equalAt commonBeginning latestValue appended entryOk follows placeOk inOrder restZero logOk startedOf votedOf member isWithin numbersOk countedOk zeroOk serverOk wellFormed tookOf stampedOf notBehind mayVote allMayVote backs passes highestPassing rowOf coreOf stepOf
 moment = runOf (freshCluster 3) until
 
 pub between : Cluster

@@ -19,7 +19,7 @@ use Rattle.safety.proofs.Reached.{reached}
 quiet-refl : (v : Seen) (i : ℕ) → Quiet v i (v i)
 quiet-refl v i = record { rests = rests-refl; settles = stays refl }
 
--- kinds 8 and 10 to 13: no server changes in what the view shows
+-- kinds 8, 10 to 13 and 15: no server changes in what the view shows
 pub unchanged : {𝓠 : Quorums} {v v′ : Seen} → ((i : ℕ) → v′ i ≡ v i) → Goes 𝓠 v v′
 unchanged {v = v} h = quiet (λ i. rw (h i) (quiet-refl v i))
 

@@ -1,4 +1,4 @@
--- Kinds 2, 3 and 8 to 13 as the view shows them: no log changes, and a commit point stays, is lost or is heard.
+-- Kinds 2, 3, 8 to 13 and 15 as the view shows them: no log changes, and a commit point stays, is lost or is heard.
 -- Assumes nothing.
 use mathlib.Core.Path.{_≡_, refl, ap}
 use mathlib.Core.Bool.{Bool, true, false, cond}
@@ -14,7 +14,7 @@ use Rattle.cluster.specs.declared.Cluster.{Cluster}
 use Rattle.cluster.specs.Ranges.{Fits}
 use Rattle.cluster.specs.Servers.{withWall, withHead, serverCount, serverAt, withServer, clockedOf}
 use Rattle.steps.specs.declared.Step.{Step}
-use Rattle.steps.specs.declared.Step.the-variants.{StepDown, Hears, WallClock, Restarts, LocalRead, MajorityRead, Acknowledged, ClocksAgree}
+use Rattle.steps.specs.declared.Step.the-variants.{StepDown, Hears, WallClock, Restarts, LocalRead, MajorityRead, Acknowledged, ClocksAgree, NewestRead}
 use Rattle.steps.specs.Reasons.{Clear}
 use Rattle.pairs.specs.Hears.{takesCommit, heardOf}
 use Rattle.singles.specs.StepsDown.{downDone}
@@ -97,6 +97,10 @@ module _ {𝓠 : Quorums} (c : Cluster) (f : Fits c) where
   pub sees-majority : (a key : ℕ) (asked : Time) → Sees 𝓠 c (MajorityRead a key asked)
   unfolding rowOf
   sees-majority a key asked h = not-shown c f a (h .0) (serverAt c a) refl
+
+  pub sees-newest : (a key n term : ℕ) → Sees 𝓠 c (NewestRead a key n term)
+  unfolding rowOf
+  sees-newest a key n term h = not-shown c f a (h .0) (serverAt c a) refl
 
 pub sees-acknowledged : {𝓠 : Quorums} (c : Cluster) (a k n term : ℕ) → Sees 𝓠 c (Acknowledged a k n term)
 unfolding rowOf

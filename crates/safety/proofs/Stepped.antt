@@ -12,7 +12,7 @@ use Rattle.cluster.specs.Servers.{mostServers, serverCount, freshCluster}
 use Rattle.cluster.specs.WellFormed.{wellFormed}
 use Rattle.cluster.proofs.Good.{good}
 use Rattle.steps.specs.declared.Step.{Step}
-use Rattle.steps.specs.declared.Step.the-variants.{Start, Elect, StepDown, Hears, Pulls, RollsBack, Writes, Advances, WallClock, Restarts, LocalRead, MajorityRead, Acknowledged, ClocksAgree}
+use Rattle.steps.specs.declared.Step.the-variants.{Start, Elect, StepDown, Hears, Pulls, RollsBack, Writes, Advances, WallClock, Restarts, LocalRead, MajorityRead, Acknowledged, ClocksAgree, WritesNothing, NewestRead}
 use Rattle.steps.specs.declared.Refusal.{Refusal}
 use Rattle.steps.specs.declared.Refusal.the-variants.{BelowCommitPoint}
 use Rattle.steps.specs.declared.Answer.the-variants.{Done, Refused}
@@ -29,9 +29,9 @@ use Rattle.safety.specs.View.{view}
 use Rattle.safety.proofs.Joins.{unchanged}
 use Rattle.safety.proofs.Quorum.{majorities}
 use Rattle.safety.proofs.Views.{fresh-seen}
-use Rattle.safety.proofs.SeenQuiet.{sees-down, sees-restart, sees-hears, sees-clock, sees-local, sees-majority, sees-acknowledged, sees-agree}
+use Rattle.safety.proofs.SeenQuiet.{sees-down, sees-restart, sees-hears, sees-clock, sees-local, sees-majority, sees-newest, sees-acknowledged, sees-agree}
 use Rattle.safety.proofs.SeenTakes.{sees-pull, sees-roll, roll-not-9}
-use Rattle.safety.proofs.SeenWrites.{sees-write}
+use Rattle.safety.proofs.SeenWrites.{sees-write, sees-nothing}
 use Rattle.safety.proofs.SeenMajorities.{sees-elect, sees-advance}
 
 -- ---- the steps
@@ -75,6 +75,9 @@ module _ {n : ℕ} {some : 0 < n} {c : Cluster} (now : Now n some c) where
   done-next (MajorityRead a key asked) f no-start wf h = record { goes = sees-majority c (now .fits) a key asked h; counted = refl }
   done-next (Acknowledged a k m term) f no-start wf h = record { goes = sees-acknowledged c a k m term h; counted = refl }
   done-next ClocksAgree f no-start wf h = record { goes = sees-agree c h; counted = refl }
+  done-next (WritesNothing a) f no-start wf h =
+      record { goes = sees-nothing c (now .fits) (good c (now .fits) wf) a h; counted = refl }
+  done-next (NewestRead a key m term) f no-start wf h = record { goes = sees-newest c (now .fits) a key m term h; counted = refl }
 
   pub step-next : (s : Step) → FitsStep s → (isStart s ≡ true → stepOf c s .answer ≢ Done) → Next (majorities n some) c (stepOf c s .cluster)
   step-next s f no-start = ⊎-elim is-done (λ d. by (d .is) same-next) (step-cases c s)
@@ -113,6 +116,8 @@ module _ {n : ℕ} {some : 0 < n} {c : Cluster} (now : Now n some c) where
   broken-9 (MajorityRead a key asked) wf b = not-broken (omega arith) b refl
   broken-9 (Acknowledged a k m term) wf b = not-broken (omega arith) b refl
   broken-9 ClocksAgree wf b = not-broken tt b refl
+  broken-9 (WritesNothing a) wf b = not-broken (omega arith) b refl
+  broken-9 (NewestRead a key m term) wf b = not-broken (omega arith) b refl
 
   pub never-9 : (s : Step) → stepOf c s .answer ≢ Refused BelowCommitPoint
   never-9 s nine = go (refused-why c s BelowCommitPoint nine) refl

@@ -1,4 +1,4 @@
--- A write keeps the invariant (kind 6).
+-- A write keeps the invariant (kind 6, and kind 14, whose entry writes nothing).
 -- Assumes nothing.
 use mathlib.Core.Path.{_≡_, refl, sym, _∙_}
 use mathlib.Core.Logic.{_≢_, _⊎_, inl, inr, by-cases}

@@ -1,4 +1,4 @@
--- The steps of 01 that are not refused, each as what safety needs to know of the view before it and the view after it.
+-- The steps of 01 and 02 that are not refused, each as what safety needs to know of the view before it and the view after it.
 -- Assumes nothing.
 use mathlib.Core.Path.{_≡_}
 use mathlib.Core.Bool.{Bool, true, false}
@@ -26,7 +26,7 @@ pub record Elects (𝓠 : Quorums) (v v′ : Seen) (a : ℕ) (members : ℕ → 
   pub winner : (i : ℕ) → members i ≡ true → v′ i .primary ≡ true → i ≡ a
   pub others : (i : ℕ) → members i ≡ false → v′ i ≡ v i
 
--- kind 6: a writes e
+-- kinds 6 and 14: a writes e
 pub record Writes (v v′ : Seen) (a : ℕ) (e : EntrySeen) : Type 0 where
   pub primary : v a .primary ≡ true
   pub current : e .term ≡ v a .term
