@@ -22,5 +22,6 @@ pub mod SeenMajorities
 pub mod Stepped
 pub mod Answered
 pub mod Promise
+pub mod SeenNewest
 pub mod Newest
 pub mod Example

@@ -1,14 +1,15 @@
 -- A newest read takes in all that any commit point covered before the kind 14 step.
 -- Assumes nothing.
 use mathlib.Core.Path.{_≡_, refl, ap, sym, _∙_}
-use mathlib.Core.Bool.{true}
+use mathlib.Core.Bool.{true, false}
 use mathlib.Core.Logic.{by-cases}
-use mathlib.Core.List.{List}
-use Prim.Native.Nat.{ℕ, suc, _≤_, _<_}
+use mathlib.Core.List.{List, _∷_}
+use Prim.Native.Nat.{ℕ, _≤_, _<_}
 use native.Mathlib.Decide.{decLe}
 use native.Mathlib.Omega.{arith}
 use lib.ListN.{length, take}
 use lib.Seq.{length-take-le, take-take}
+use Rattle.base.proofs.Bools.{not-both}
 use Rattle.clock.specs.Times.{isBefore}
 use Rattle.log.specs.declared.Entry.{Entry}
 use Rattle.log.specs.Entries.{entryAt, latestValue, isBeginning}
@@ -18,35 +19,23 @@ use Rattle.log.proofs.Latest.{found, latest-found, found-le, found-key, found-l
 use Rattle.log.proofs.Live.{entryAt-take}
 use Rattle.log.proofs.Positions as P
 use Rattle.cluster.specs.declared.Cluster.{Cluster}
-use Rattle.cluster.specs.Servers.{serverAt}
-use Rattle.safety.specs.Cluster.{EntrySeen}
+use Rattle.cluster.specs.Servers.{serverAt, freshCluster}
+use Rattle.steps.specs.declared.Step.the-variants.{WritesNothing}
+use Rattle.steps.specs.Ranges.{FitsStep}
 use Rattle.safety.specs.Steps.{Walk}
-use Rattle.safety.specs.NewestSeen.{Answers, NewestSeen}
+use Rattle.safety.specs.NewestSeen.{NewestSeen}
 use Rattle.safety.specs.View.{view}
 use Rattle.safety.specs.Promise.{entryOf, firstOf}
-use Rattle.safety.specs.Newest.{Reading, NoneFor, Newest, of-those, newer, TakenIn}
+use Rattle.safety.specs.Newest.{Reading, NoneFor, Newest, of-those, newer, TakenIn, momentIn, askedIn, readIn, NewestPromised}
 use Rattle.safety.proofs.Quorum.{majorities}
 use Rattle.safety.proofs.Time.{stamp-before}
 use Rattle.safety.proofs.Joins.{commit-within, times-ordered}
 use Rattle.safety.proofs.NewestSeen as S
 use Rattle.safety.proofs.Views.{fresh-seen, fits-time, first-beginning, first-same}
 use Rattle.safety.proofs.Answered.{key-of, value-of, latest-first}
+use Rattle.safety.proofs.SeenNewest.{Asked, asked-of, Read, read-of}
 use Rattle.safety.proofs.Stepped.{Now}
-
--- ---- the two steps
-
--- kind 14 at a, answered with the reading's position and term
-record Asked (x : Cluster) (a : ℕ) (r : Reading) : Type 0 where
-  primary : view x a .primary ≡ true
-  position : r .position ≡ suc (view x a .len)
-  term : r .term ≡ view x a .term
-
--- kind 15 answered; an entry for its key has a value
-record Read (y : Cluster) (r : Reading) : Type 0 where
-  counted : r .server < y .count
-  answers : Answers (view y (r .server)) (r .term) (r .position)
-  value : latestValue (r .key) (firstOf y (r .server) (r .position)) ≡ r .value
-  valued : (p : ℕ) → 1 ≤ p → p ≤ r .position → entryOf y (r .server) p .key ≡ r .key → 1 ≤ entryOf y (r .server) p .value
+use Rattle.safety.proofs.Promise.{ran, begun}
 
 -- ---- what is read
 
@@ -156,3 +145,19 @@ module _ {n : ℕ} {some : 0 < n} {w x y : Cluster} (W : Now n some w) (Y : Now 
           newest = shown;
           none = nothing;
         }
+
+-- ---- the promise
+
+pub newest-read : NewestPromised
+newest-read n two seven r =
+    let some : 0 < n = omega arith in
+    let W = ran (freshCluster n) (begun n some seven) (r .until) (r .steps-until) in
+    let X = ran (momentIn r) (W .now) (r .on) (r .steps-on) in
+    let asked = asked-of (askedIn r) (X .now .fits) (r .a) (r .read) (r .time) (r .asked) in
+    let fits : FitsStep (WritesNothing (r .a)) = omega (arith, asked .counted, X .now .counted) in
+    let Y = ran (askedIn r) (X .now) (WritesNothing (r .a) ∷ r .after) (fits, λ e. not-both false e refl, r .steps-after) in
+    let read = read-of (readIn r) (Y .now .fits) (r .read) (r .answered) in
+    record {
+      same-server = seen (W .now) (Y .now) (X .walk) (Y .walk) asked read 0 0 (omega arith) .same-server;
+      taken-in = λ s k l one cov. taken-in (W .now) (Y .now) (X .walk) (Y .walk) asked read s k l cov;
+    }

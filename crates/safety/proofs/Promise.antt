@@ -19,7 +19,7 @@ use Rattle.log.proofs.Latest.{found, latest-found}
 use Rattle.log.proofs.Live.{entryAt-take}
 use Rattle.cluster.specs.declared.Server.{Server}
 use Rattle.cluster.specs.declared.Cluster.{Cluster}
-use Rattle.cluster.specs.Servers.{serverCount, serverAt, freshCluster}
+use Rattle.cluster.specs.Servers.{mostServers, serverCount, serverAt, freshCluster}
 use Rattle.cluster.proofs.Fresh.{fits-fresh}
 use Rattle.steps.specs.declared.Step.{Step}
 use Rattle.steps.specs.declared.Step.the-variants.{MajorityRead}
@@ -119,12 +119,12 @@ module _ {n : ℕ} {some : 0 < n} {x y : Cluster} (X : Now n some x) (Y : Now n 
 -- ---- runs
 
 -- what steps lead to, and that none of them got refusal 9
-record Ran (n : ℕ) (some : 0 < n) (c : Cluster) (r : List Step) : Type 0 where
-  now : Now n some (runOf c r)
-  walk : Walk (majorities n some) (view c) (view (runOf c r))
-  never : Never9 c r
+pub record Ran (n : ℕ) (some : 0 < n) (c : Cluster) (r : List Step) : Type 0 where
+  pub now : Now n some (runOf c r)
+  pub walk : Walk (majorities n some) (view c) (view (runOf c r))
+  pub never : Never9 c r
 
-ran : {n : ℕ} {some : 0 < n} (c : Cluster) → Now n some c → (r : List Step) → StepsFrom c r → Ran n some c r
+pub ran : {n : ℕ} {some : 0 < n} (c : Cluster) → Now n some c → (r : List Step) → StepsFrom c r → Ran n some c r
 ran c N [] h = record { now = N; walk = stop; never = tt }
 ran {n} {some} c N (s ∷ r) h =
     let X = step-next N s (h .0) (h .1) in
@@ -137,11 +137,13 @@ ran {n} {some} c N (s ∷ r) h =
     let R = ran (stepOf c s .cluster) M r (h .2) in
     record { now = R .now; walk = walk-on (go stop (X .goes)) (R .walk); never = (never-9 N s, R .never) }
 
+pub begun : (n : ℕ) (some : 0 < n) → n ≤ mostServers → Now n some (freshCluster n)
+begun n some seven = record { fits = fits-fresh n seven; counted = refl; few = seven; walk = stop }
+
 pub demand-3 : Promised
 demand-3 n r₁ r₂ two seven h₁ h₂ =
     let some : 0 < n = omega arith in
-    let N : Now n some (freshCluster n) = record { fits = fits-fresh n seven; counted = refl; few = seven; walk = stop } in
-    let X = ran (freshCluster n) N r₁ h₁ in
+    let X = ran (freshCluster n) (begun n some seven) r₁ h₁ in
     let Y = ran (momentOf n r₁) (X .now) r₂ h₂ in
     record {
       counted = Y .now .counted;

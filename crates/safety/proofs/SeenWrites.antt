@@ -2,6 +2,7 @@
 -- Assumes nothing.
 use mathlib.Core.Path.{_≡_, refl, ap, _∙_}
 use mathlib.Core.Bool.{true, false}
+use mathlib.Core.List.{[], _∷_, _++_}
 use Prim.Native.Nat.{ℕ, suc, _<_}
 use native.Mathlib.Omega.{arith}
 use lib.Dec.{ltb}
@@ -13,8 +14,9 @@ use Rattle.clock.specs.declared.Ticked.the-variants.{To, AtLimit}
 use Rattle.clock.specs.Times.{tickOf}
 use Rattle.clock.proofs.Order.{then-before}
 use Rattle.clock.proofs.Ticks.{tick-after}
+use Rattle.log.specs.declared.Entry.{Entry}
 use Rattle.log.specs.Entries.{appliedTime}
-use Rattle.log.specs.Logs.{logLimit, live, lengthOf}
+use Rattle.log.specs.Logs.{logLimit, live, lengthOf, appended}
 use Rattle.log.specs.Order.{noKey}
 use Rattle.log.proofs.Positions.{length-more, entryAt-old, entryAt-new}
 use Rattle.log.proofs.Tidy.{tidy-length, live-appended}
@@ -47,6 +49,13 @@ later-tick s f g h =
     before-stamp _ _ (fits-time (s .log) (f .log) (lengthOf (s .log)))
     (then-before _ (s .head .time) _ (g .last-time) (tick-after (s .head .wall) (s .head .time) _ (ticked-to _ h)))
 
+-- where the rules are clear there is room for the entry
+pub roomy : (c : Cluster) → Good c → (a : ℕ) (e : Entry) → ltb a (serverCount c) ≡ true → Clear (appendRules (serverAt c a))
+    → live (appended (serverAt c a .log) e) ≡ live (serverAt c a .log) ++ (e ∷ [])
+roomy c g a e below r =
+    let t = g .counted a (omega (arith, ltb-true a (serverCount c) below)) .log .tidy in
+    live-appended t e (omega (arith, tidy-length t, ltb-true (lengthOf (serverAt c a .log)) logLimit (r .1 .0)))
+
 -- a appends an entry, whatever its key and value
 append-seen : {𝓠 : Quorums} (c : Cluster) → Fits c → Good c → (a key value : ℕ) → ltb a (serverCount c) ≡ true → Clear (appendRules (serverAt c a))
     → Goes 𝓠 (view c) (view (withServer c a (appendDone (serverAt c a) key value .server)))
@@ -56,8 +65,7 @@ append-seen c f g a key value below r =
     let t = tickTime (tickOf (s .head .wall) (s .head .time)) in
     let e = newEntry s key value t in
     let k = g .counted a (omega (arith, ltb-true a (serverCount c) below)) in
-    let room = ltb-true (lengthOf (s .log)) logLimit (r .1 .0) in
-    let l = live-appended (k .log .tidy) e (omega (arith, tidy-length (k .log .tidy))) in
+    let l = roomy c g a e below r in
     let q = here c f a below (stampedOf s key value t) in
     writes a (seenEntry e)
     (record {

@@ -11,8 +11,13 @@ use Rattle.clock.specs.declared.Time.{Time}
 use Rattle.clock.specs.Times.{isBefore}
 use Rattle.log.specs.Entries.{latestValue, isBeginning}
 use Rattle.cluster.specs.declared.Cluster.{Cluster}
-use Rattle.cluster.specs.Servers.{serverAt}
-use Rattle.safety.specs.Promise.{entryOf, firstOf}
+use Rattle.cluster.specs.Servers.{fewestServers, mostServers, serverAt, freshCluster}
+use Rattle.steps.specs.declared.Step.{Step}
+use Rattle.steps.specs.declared.Step.the-variants.{WritesNothing, NewestRead}
+use Rattle.steps.specs.declared.Answer.{Answer}
+use Rattle.steps.specs.declared.Answer.the-variants.{Entry, Value}
+use Rattle.rules.specs.Rules.{stepOf}
+use Rattle.safety.specs.Promise.{runOf, StepsFrom, entryOf, firstOf, momentOf, afterOf}
 
 -- ---- what a newest read takes in
 
@@ -47,3 +52,54 @@ pub record TakenIn (w y : Cluster) (s k : ℕ) (r : Reading) : Type 0 where
   pub newest : Newest w y s k r
   -- and it is 0 only where there is neither
   pub none : r .value ≡ 0 → NoneFor w s (r .key) 0 k × NoneFor y (r .server) (r .key) k (r .position)
+
+-- ---- a run with such a read
+
+-- kind 15 as it is asked, and its answer
+abbrev pub readStepOf : Reading → Step
+readStepOf r = NewestRead (r .server) (r .key) (r .position) (r .term)
+
+abbrev pub readAnswerOf : Reading → Answer
+readAnswerOf r = Value (r .value) (r .time)
+
+-- the record when a is asked to write nothing, and the one when the read is asked for
+abbrev pub readAfter : Cluster → ℕ → List Step → Cluster
+readAfter x a after = runOf (stepOf x (WritesNothing a) .cluster) after
+
+-- from the fresh cluster of n servers: any steps until some moment, any steps on from there, and then server a is asked to write nothing; any
+-- steps after that, and then a newest read is asked for with the position and the term that a answered. No start among the steps succeeds
+pub record NewestRun (n : ℕ) : Type 0 where
+  pub until : List Step
+  pub on : List Step
+  pub a : ℕ
+  pub after : List Step
+  pub read : Reading
+  pub time : Time
+  pub steps-until : StepsFrom (freshCluster n) until
+  pub steps-on : StepsFrom (momentOf n until) on
+  pub asked : stepOf (afterOf n until on) (WritesNothing a) .answer ≡ Entry (read .position) (read .term) time
+  pub steps-after : StepsFrom (stepOf (afterOf n until on) (WritesNothing a) .cluster) after
+  pub answered : stepOf (readAfter (afterOf n until on) a after) (readStepOf read) .answer ≡ readAnswerOf read
+
+-- the record at the moment, the one when a is asked, and the one when the read is asked for
+abbrev pub momentIn : {n : ℕ} → NewestRun n → Cluster
+momentIn {n} r = momentOf n (r .until)
+
+abbrev pub askedIn : {n : ℕ} → NewestRun n → Cluster
+askedIn {n} r = afterOf n (r .until) (r .on)
+
+abbrev pub readIn : {n : ℕ} → NewestRun n → Cluster
+readIn r = readAfter (askedIn r) (r .a) (r .after)
+
+-- ---- what is promised
+
+-- w is the moment, and the reading is answered in y; a was asked to write nothing between
+pub record NewestPromise (n : ℕ) (w y : Cluster) (a : ℕ) (r : Reading) : Type 0 where
+  -- the server that answers is the one that was asked
+  pub same-server : r .server ≡ a
+  -- whatever a server's commit point covers at the moment is taken in
+  pub taken-in : (s k : ℕ) → s < n → 1 ≤ k → k ≤ serverAt w s .head .commit → TakenIn w y s k r
+
+-- for every fresh cluster of two to seven servers, any steps in any order, and every moment up to the kind 14 step
+abbrev pub NewestPromised : Type 0
+NewestPromised = (n : ℕ) → fewestServers ≤ n → n ≤ mostServers → (r : NewestRun n) → NewestPromise n (momentIn r) (readIn r) (r .a) (r .read)
