@@ -31,7 +31,7 @@ use Rattle.safety.specs.Promise.{runOf, StepsFrom, firstOf, holds, Kept}
 use Rattle.safety.proofs.Promise.{demand-3}
 
 -- server 0 wins term 1 and writes build 41 under key 5; server 1 pulls it, and server 0's commit point covers it
-abbrev until : List Step
+abbrev pub until : List Step
 until = Elect 0 3 ∷ Writes 0 5 41 ∷ Pulls 1 0 ∷ Advances 0 ∷ []
 
 -- server 0 writes build 40, which nobody pulls, and restarts; two starts and a write are refused; server 1 wins term 2 and writes
@@ -43,7 +43,7 @@ abbrev pub build : ℕ → ℕ → ℕ → Entry
 build term value l = record { term = term; key = 5; value = value; time = record { p = 1; l = l } }
 
 -- the record at the moment, before the rollback, and at the end
-pub moment : Cluster
+unfoldable pub moment : Cluster
 unfolding every count highest eachFrom isBefore sameTime laterOf tickOf sameEntry entryAt equalAt commonBeginning latestValue appended entryOk follows placeOk inOrder restZero logOk startedOf votedOf member isWithin numbersOk countedOk zeroOk serverOk wellFormed tookOf stampedOf notBehind mayVote allMayVote backs passes highestPassing rowOf coreOf stepOf
 moment = runOf (freshCluster 3) until
 
@@ -80,13 +80,13 @@ read = refl
 
 -- ---- the promise applies to it
 
-other-kind : {A : Type 0} → false ≡ true → A
+pub other-kind : {A : Type 0} → false ≡ true → A
 other-kind e = not-both false e refl
 
 not-done : {A : Type 0} {r : Refusal} → _≡_ {A = Answer} (Refused r) Done → A
 not-done e = let z : _≡_ {A = ℕ} 0 1 = cc in absurd (omega arith)
 
-steps-until : StepsFrom (freshCluster 3) until
+pub steps-until : StepsFrom (freshCluster 3) until
 unfolding moment
 steps-until = (omega arith, other-kind, (omega arith, other-kind, (omega arith, other-kind, (omega arith, other-kind, tt))))
 

@@ -25,3 +25,4 @@ pub mod Promise
 pub mod SeenNewest
 pub mod Newest
 pub mod Example
+pub mod NewestExample
