@@ -1,17 +1,13 @@
 -- Demand 3 over the lines of a text. Assumes nothing.
-use mathlib.Core.Path.{_≡_, ap, sym, _∙_}
-use mathlib.Core.List.{List}
+use mathlib.Core.Path.{sym, _∙_}
 use Prim.Native.Nat.{ℕ}
 use Rattle.cluster.specs.declared.Cluster.{Cluster}
-use Rattle.cluster.specs.Servers.{freshCluster}
-use Rattle.steps.specs.declared.Step.{Step}
-use Rattle.replay.specs.Texts.{recordAfter}
 use Rattle.safety.specs.Promise as S
-use Rattle.safety.specs.Promise.{Kept, momentOf, afterOf}
+use Rattle.safety.specs.Promise.{Kept}
 use Rattle.safety.proofs.Promise.{demand-3}
 use Rattle.demand3.specs.Promise.{KeptFor, opening, moment, later, PromisedInTexts}
-use Rattle.demand3.proofs.Starts.{answer-is, answer-of, Fresh, begins-fresh}
-use Rattle.demand3.proofs.Lines.{stepsIn, same-record, steps-from}
+use Rattle.demand3.proofs.Starts.{answer-is, answer-of}
+use Rattle.demand3.proofs.Stretches.{begun, untilOf, onwardOf, moment-is, later-is, steps-until, steps-onward}
 use Rattle.demand3.proofs.Never9.{Came, came-fresh, line-9, came-after, lines-9}
 
 -- what is kept of steps is kept for lines
@@ -22,41 +18,21 @@ kept-for x y s k h =
 pub demand-3-text : PromisedInTexts
 demand-3-text text t =
     record {
-      fewest = f .fewest;
-      most = f .most;
-      fresh = f .is;
-      counted = rw y-is (promise .counted);
-      kept = λ s k l one cov. kept-for (moment t) (later t) s k (rw (y-is, x-is) (promise .kept s k l one (rw x-is at cov)));
+      fewest = begun t .fewest;
+      most = begun t .most;
+      fresh = begun t .is;
+      counted = rw (later-is t) (promise .counted);
+      kept = λ s k l one cov. kept-for (moment t) (later t) s k (rw (later-is t, moment-is t) (promise .kept s k l one (rw (moment-is t) at cov)));
       never-9-until = lines-9 (opening t) (t .until) opening-came;
       never-9-onward = lines-9 (moment t) (t .onward) moment-came;
       never-9-next = λ line. line-9 (later t) line (came-after (moment t) (t .onward) moment-came);
     }
   where
-    n : ℕ
-    n = t .count
-
-    f : Fresh (opening t) n
-    f = begins-fresh _ (t .start) n (t .begins)
-
-    r₁ : List Step
-    r₁ = stepsIn (t .until)
-
-    r₂ : List Step
-    r₂ = stepsIn (t .onward)
-
-    x-is : moment t ≡ momentOf n r₁
-    x-is = ap (λ (c : Cluster). recordAfter c (t .until)) (f .is) ∙ same-record (freshCluster n) (t .until)
-
-    y-is : later t ≡ afterOf n r₁ r₂
-    y-is = ap (λ (c : Cluster). recordAfter c (t .onward)) x-is ∙ same-record (momentOf n r₁) (t .onward)
-
-    promise : S.Promise n r₁ r₂
-    promise =
-        demand-3 n r₁ r₂ (f .fewest) (f .most) (rw (f .is) at (steps-from (opening t) (t .until) (t .none-until)))
-        (rw x-is at (steps-from (moment t) (t .onward) (t .none-onward)))
+    promise : S.Promise (t .count) (untilOf t) (onwardOf t)
+    promise = demand-3 (t .count) (untilOf t) (onwardOf t) (begun t .fewest) (begun t .most) (steps-until t) (steps-onward t)
 
     opening-came : Came (opening t)
-    opening-came = came-fresh f
+    opening-came = came-fresh (begun t)
 
     moment-came : Came (moment t)
     moment-came = came-after (opening t) (t .until) opening-came

@@ -1,2 +1,3 @@
 -- What is promised of the lines of a text. Assumes nothing.
 pub mod Promise
+pub mod Newest
