@@ -4,12 +4,11 @@ use mathlib.Core.List.{List}
 use Prim.Native.Nat.{ℕ}
 use Rattle.cluster.specs.declared.Cluster.{Cluster}
 use Rattle.steps.specs.declared.Outcome.{Outcome}
-use Rattle.steps.specs.declared.Step.{Step}
 use Rattle.steps.specs.declared.Step.the-variants.{WritesNothing}
 use Rattle.rules.specs.Rules.{stepOf}
 use Rattle.replay.specs.Texts.{answerTo, recordAfter}
 use Rattle.safety.specs.Promise.{afterOf}
-use Rattle.safety.specs.Newest.{readStepOf, readAfter, NewestRun}
+use Rattle.safety.specs.Newest.{readingStep, readAfter, NewestRun}
 use Rattle.safety.proofs.Newest.{newest-read}
 use Rattle.demand3.specs.Promise.{later}
 use Rattle.demand3.specs.Newest.{NewestStretch, reader, NewestInTexts}
@@ -41,7 +40,7 @@ module _ {text : List ℕ} (t : NewestStretch text) where
         steps-on = steps-onward (t .stretch);
         asked = sym (answer-of asked-is) ∙ t .asked;
         steps-after = rw asked-is at (steps-from (answerTo (later (t .stretch)) (t .asking) .cluster) (t .after) (t .none-after));
-        answered = ap (λ (c : Cluster). stepOf c (readStepOf (t .read)) .answer) (sym reader-is) ∙ sym (answer-of (answer-is (reader t) (t .reading) _ (t .reads))) ∙ t .answered;
+        answered = ap (λ (c : Cluster). stepOf c (readingStep (t .read)) .answer) (sym reader-is) ∙ sym (answer-of (answer-is (reader t) (t .reading) _ (t .reads))) ∙ t .answered;
       }
 
 pub newest-read-text : NewestInTexts

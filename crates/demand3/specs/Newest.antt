@@ -9,7 +9,7 @@ use Rattle.steps.specs.declared.Answer.the-variants.{Entry}
 use Rattle.frames.specs.declared.ReadStep.the-variants as R
 use Rattle.frames.specs.Steps.{readStep}
 use Rattle.replay.specs.Texts.{answerTo, recordAfter}
-use Rattle.safety.specs.Newest.{Reading, readStepOf, readAnswerOf, NewestPromise}
+use Rattle.safety.specs.Newest.{Reading, readingStep, readingAnswer, NewestPromise}
 use Rattle.demand3.specs.Promise.{Line, NoneBegins, Stretch, moment, later}
 
 -- in a text that a new program is given: a stretch until some moment and onward from there; then a line that asks server a to write nothing,
@@ -28,8 +28,8 @@ pub record NewestStretch (text : List ℕ) : Type 0 where
   pub asks : readStep asking ≡ R.Step (WritesNothing a)
   pub asked : answerTo (later stretch) asking .answer ≡ Entry (read .position) (read .term) time
   pub none-after : NoneBegins (answerTo (later stretch) asking .cluster) after
-  pub reads : readStep reading ≡ R.Step (readStepOf read)
-  pub answered : answerTo (recordAfter (answerTo (later stretch) asking .cluster) after) reading .answer ≡ readAnswerOf read
+  pub reads : readStep reading ≡ R.Step (readingStep read)
+  pub answered : answerTo (recordAfter (answerTo (later stretch) asking .cluster) after) reading .answer ≡ readingAnswer read
 
 -- the record that the read is given to
 abbrev pub reader : {text : List ℕ} → NewestStretch text → Cluster

@@ -12,7 +12,7 @@ use lib.Seq.{length-take-le, take-take}
 use Rattle.base.proofs.Bools.{not-both}
 use Rattle.clock.specs.Times.{isBefore}
 use Rattle.log.specs.declared.Entry.{Entry}
-use Rattle.log.specs.Entries.{entryAt, latestValue, isBeginning}
+use Rattle.log.specs.Entries.{entryAt, latestValue}
 use Rattle.log.specs.Logs.{live, lengthOf}
 use Rattle.log.specs.Ranges.{FitsLog}
 use Rattle.log.proofs.Latest.{found, latest-found, found-le, found-key, found-last}
@@ -26,7 +26,7 @@ use Rattle.safety.specs.Steps.{Walk}
 use Rattle.safety.specs.NewestSeen.{NewestSeen}
 use Rattle.safety.specs.View.{view}
 use Rattle.safety.specs.Promise.{entryOf, firstOf}
-use Rattle.safety.specs.Newest.{Reading, NoneFor, Newest, of-those, newer, TakenIn, momentIn, askedIn, readIn, NewestPromised}
+use Rattle.safety.specs.Newest.{Reading, NoneFor, NewestValue, last-of-those, of-a-newer, TakenIn, momentIn, askedIn, readIn, NewestPromised}
 use Rattle.safety.proofs.Quorum.{majorities}
 use Rattle.safety.proofs.Time.{stamp-before}
 use Rattle.safety.proofs.Joins.{commit-within, times-ordered}
@@ -113,22 +113,22 @@ module _ {n : ℕ} {some : 0 < n} {w x y : Cluster} (W : Now n some w) (Y : Now 
         (stamp-before (entryOf y q k .time) (entryOf y q p .time) (fits-time (serverAt y q .log) log-y p)
         (times-ordered (fresh-seen n) (Y .walk) q k p l (omega (arith, long-y))))
 
-    shown : Newest w y s k r
+    shown : NewestValue w y s k r
     shown = by-cases (decLe p k) those (λ h. above (omega arith))
       where
         p : ℕ
         p = found (r .key) (firstOf y q m)
 
-        those : p ≤ k → Newest w y s k r
+        those : p ≤ k → NewestValue w y s k r
         those h =
-            of-those (ap (latestValue (r .key)) same ∙ latest-first (r .key) k (firstOf y q m) (omega (arith, below, es-long read long-y)) h ∙ read .value)
+            last-of-those (ap (latestValue (r .key)) same ∙ latest-first (r .key) k (firstOf y q m) (omega (arith, below, es-long read long-y)) h ∙ read .value)
             (none-above read long-y k h)
 
-        above : k < p → Newest w y s k r
+        above : k < p → NewestValue w y s k r
         above l =
             let h : p ≤ m = omega (arith, found-le (r .key) (firstOf y q m), es-long read long-y) in
             let e = es-at read long-y p h in
-            newer p l h (key-of (sym e) ∙ found-key (r .key) (firstOf y q m) (omega arith))
+            of-a-newer p l h (key-of (sym e) ∙ found-key (r .key) (firstOf y q m) (omega arith))
             (value-of (sym e) ∙ sym (latest-found (r .key) (firstOf y q m)) ∙ read .value) (newer-time p l h)
 
     nothing : r .value ≡ 0 → NoneFor w s (r .key) 0 k × NoneFor y q (r .key) k m

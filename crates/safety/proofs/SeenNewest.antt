@@ -3,7 +3,6 @@
 use mathlib.Core.Path.{_≡_, refl, ap, sym, _∙_}
 use mathlib.Core.Bool.{true}
 use mathlib.Core.Logic.{⊎-elim}
-use mathlib.Core.List.{List}
 use Prim.Native.Nat.{ℕ, suc, _≤_, _<_}
 use native.Mathlib.Omega.{arith}
 use lib.Dec.{leb}
@@ -12,8 +11,7 @@ use borrow.Author.Tests.{ltb-true, leb-true, eqb-true}
 use Rattle.base.proofs.Bools.{and-left, and-right}
 use Rattle.clock.specs.declared.Time.{Time}
 use Rattle.clock.specs.Times.{tickOf}
-use Rattle.log.specs.declared.Entry.{Entry}
-use Rattle.log.specs.Entries.{entryAt, hasEntry, latestValue}
+use Rattle.log.specs.Entries.{hasEntry, latestValue}
 use Rattle.log.specs.Logs.{live, lengthOf, appended}
 use Rattle.log.specs.Order.{highestKey, noKey}
 use Rattle.log.proofs.Orderly.{Writing}
@@ -29,8 +27,8 @@ use Rattle.rules.specs.Rules.{rowOf, stepOf}
 use Rattle.safety.specs.NewestSeen.{Answers}
 use Rattle.safety.specs.View.{view}
 use Rattle.safety.specs.Promise.{entryOf, firstOf}
-use Rattle.safety.specs.Newest.{Reading, readStepOf, readAnswerOf}
-use Rattle.safety.proofs.Answered.{DoneWith, answered-done}
+use Rattle.safety.specs.Newest.{Reading, readingStep, readingAnswer}
+use Rattle.safety.proofs.Answered.{answered-done}
 use Rattle.safety.proofs.SeenWrites.{roomy}
 
 -- kind 14 at a, answered with the reading's position and term
@@ -67,10 +65,10 @@ pub record Read (y : Cluster) (r : Reading) : Type 0 where
 some-value : {key value : ℕ} → key ≤ highestKey → Writing key value → 1 ≤ value
 some-value h w = ⊎-elim (λ x. x .1) (λ x. absurd (omega arith)) w
 
-pub read-of : (y : Cluster) → Fits y → (r : Reading) → stepOf y (readStepOf r) .answer ≡ readAnswerOf r → Read y r
+pub read-of : (y : Cluster) → Fits y → (r : Reading) → stepOf y (readingStep r) .answer ≡ readingAnswer r → Read y r
 unfolding rowOf hasEntry
 read-of y f r told =
-    let d = answered-done y (readStepOf r) told refl in
+    let d = answered-done y (readingStep r) told refl in
     let k = d .clear .1 in
     let es = live (serverAt y (r .server) .log) in
     let below : r .server < y .count = omega (arith, ltb-true (r .server) (serverCount y) (d .clear .0)) in

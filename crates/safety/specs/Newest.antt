@@ -21,7 +21,7 @@ use Rattle.safety.specs.Promise.{runOf, StepsFrom, entryOf, firstOf, mom
 
 -- ---- what a newest read takes in
 
--- kind 15 at a server: the key, position and term that it is asked with, and the value and time that it is answered with
+-- a newest read at a server: the key, position and term that it is asked with, and the value and time that it is answered with
 pub record Reading : Type 0 where
   pub server : ℕ
   pub key : ℕ
@@ -34,13 +34,13 @@ pub record Reading : Type 0 where
 abbrev pub NoneFor : Cluster → ℕ → ℕ → ℕ → ℕ → Type 0
 NoneFor c i key j m = (p : ℕ) → j < p → p ≤ m → entryOf c i p .key ≢ key
 
--- the value of a reading in y beside the first k entries that server s had in w
-pub data Newest (w y : Cluster) (s k : ℕ) (r : Reading) : Type 0 where
-  -- it is that of the last of them for the key, or 0 if none is, and nothing newer is read
-  of-those : latestValue (r .key) (firstOf w s k) ≡ r .value → NoneFor y (r .server) (r .key) k (r .position) → Newest w y s k r
+-- the value of a reading in y, beside the first k entries that server s had in w
+pub data NewestValue (w y : Cluster) (s k : ℕ) (r : Reading) : Type 0 where
+  -- it is that of the last of them for the key, or 0 if none is for it, and no newer entry that is read is for it
+  last-of-those : latestValue (r .key) (firstOf w s k) ≡ r .value → NoneFor y (r .server) (r .key) k (r .position) → NewestValue w y s k r
   -- or it is that of an entry for the key that is newer than all of them
-  newer : (p : ℕ) → k < p → p ≤ r .position → entryOf y (r .server) p .key ≡ r .key → entryOf y (r .server) p .value ≡ r .value
-      → isBefore (entryOf w s k .time) (entryOf y (r .server) p .time) ≡ true → Newest w y s k r
+  of-a-newer : (p : ℕ) → k < p → p ≤ r .position → entryOf y (r .server) p .key ≡ r .key → entryOf y (r .server) p .value ≡ r .value
+      → isBefore (entryOf w s k .time) (entryOf y (r .server) p .time) ≡ true → NewestValue w y s k r
 
 -- a reading in y takes in the first k entries that server s had in w
 pub record TakenIn (w y : Cluster) (s k : ℕ) (r : Reading) : Type 0 where
@@ -49,20 +49,20 @@ pub record TakenIn (w y : Cluster) (s k : ℕ) (r : Reading) : Type 0 where
   pub below : k < r .position
   pub beginning : isBeginning (firstOf w s k) (firstOf y (r .server) (r .position)) ≡ true
   -- so the value is that of the last entry for the key among them, or that of a newer entry for the key
-  pub newest : Newest w y s k r
+  pub newest : NewestValue w y s k r
   -- and it is 0 only where there is neither
   pub none : r .value ≡ 0 → NoneFor w s (r .key) 0 k × NoneFor y (r .server) (r .key) k (r .position)
 
 -- ---- a run with such a read
 
--- kind 15 as it is asked, and its answer
-abbrev pub readStepOf : Reading → Step
-readStepOf r = NewestRead (r .server) (r .key) (r .position) (r .term)
+-- a reading as a step, and its answer
+abbrev pub readingStep : Reading → Step
+readingStep r = NewestRead (r .server) (r .key) (r .position) (r .term)
 
-abbrev pub readAnswerOf : Reading → Answer
-readAnswerOf r = Value (r .value) (r .time)
+abbrev pub readingAnswer : Reading → Answer
+readingAnswer r = Value (r .value) (r .time)
 
--- the record when a is asked to write nothing, and the one when the read is asked for
+-- the record when the read is asked for: in x server a is asked to write nothing, and the steps come after that
 abbrev pub readAfter : Cluster → ℕ → List Step → Cluster
 readAfter x a after = runOf (stepOf x (WritesNothing a) .cluster) after
 
@@ -79,7 +79,7 @@ pub record NewestRun (n : ℕ) : Type 0 where
   pub steps-on : StepsFrom (momentOf n until) on
   pub asked : stepOf (afterOf n until on) (WritesNothing a) .answer ≡ Entry (read .position) (read .term) time
   pub steps-after : StepsFrom (stepOf (afterOf n until on) (WritesNothing a) .cluster) after
-  pub answered : stepOf (readAfter (afterOf n until on) a after) (readStepOf read) .answer ≡ readAnswerOf read
+  pub answered : stepOf (readAfter (afterOf n until on) a after) (readingStep read) .answer ≡ readingAnswer read
 
 -- the record at the moment, the one when a is asked, and the one when the read is asked for
 abbrev pub momentIn : {n : ℕ} → NewestRun n → Cluster
