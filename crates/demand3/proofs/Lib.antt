@@ -7,3 +7,4 @@ pub mod Stretches
 pub mod Promise
 pub mod Newest
 pub mod Runs
+pub mod NewestRuns

@@ -1,15 +1,16 @@
 -- The read that is sure to be newest, over the lines of any text. Assumes nothing.
 use mathlib.Core.Path.{_≡_}
 use mathlib.Core.List.{List, _∷_, _++_}
-use Prim.Native.Nat.{ℕ}
+use Prim.Native.Nat.{ℕ, _≤_}
 use Rattle.clock.specs.declared.Time.{Time}
 use Rattle.cluster.specs.declared.Cluster.{Cluster}
+use Rattle.cluster.specs.Servers.{fewestServers, mostServers}
 use Rattle.steps.specs.declared.Step.the-variants.{WritesNothing}
 use Rattle.steps.specs.declared.Answer.the-variants.{Entry}
 use Rattle.frames.specs.declared.ReadStep.the-variants as R
 use Rattle.frames.specs.Steps.{readStep}
 use Rattle.replay.specs.Texts.{answerTo, recordAfter}
-use Rattle.safety.specs.Newest.{Reading, readingStep, readingAnswer, NewestPromise}
+use Rattle.safety.specs.Newest.{Reading, readingStep, readingAnswer, NewestRun, momentIn, readIn, NewestPromise}
 use Rattle.demand3.specs.Promise.{Line, NoneBegins, Stretch, moment, later}
 
 -- in a text that a new program is given: a stretch until some moment and onward from there; then a line that asks server a to write nothing,
@@ -39,3 +40,14 @@ reader t = recordAfter (answerTo (later (t .stretch)) (t .asking) .cluster) (t .
 abbrev pub NewestInTexts : Type 0
 NewestInTexts = (text : List ℕ) (t : NewestStretch text)
     → NewestPromise (t .stretch .count) (moment (t .stretch)) (reader t) (t .a) (t .read)
+
+-- nothing of the promise over steps is lost: any run of steps with a newest read is such a stretch of some text
+pub record NewestAsText {n : ℕ} (r : NewestRun n) : Type 0 where
+  pub text : List ℕ
+  pub stretch : NewestStretch text
+  pub moment-is : moment (stretch .stretch) ≡ momentIn r
+  pub reader-is : reader stretch ≡ readIn r
+  pub read-is : stretch .read ≡ r .read
+
+abbrev pub EveryNewestRun : Type 0
+EveryNewestRun = (n : ℕ) → fewestServers ≤ n → n ≤ mostServers → (r : NewestRun n) → NewestAsText r

@@ -19,14 +19,13 @@ use Rattle.log.proofs.Latest.{found, latest-found, found-le, found-key, found-l
 use Rattle.log.proofs.Live.{entryAt-take}
 use Rattle.log.proofs.Positions as P
 use Rattle.cluster.specs.declared.Cluster.{Cluster}
-use Rattle.cluster.specs.Servers.{serverAt, freshCluster}
+use Rattle.cluster.specs.Servers.{fewestServers, mostServers, serverAt, freshCluster}
 use Rattle.steps.specs.declared.Step.the-variants.{WritesNothing}
-use Rattle.steps.specs.Ranges.{FitsStep}
 use Rattle.safety.specs.Steps.{Walk}
 use Rattle.safety.specs.NewestSeen.{NewestSeen}
 use Rattle.safety.specs.View.{view}
 use Rattle.safety.specs.Promise.{entryOf, firstOf}
-use Rattle.safety.specs.Newest.{Reading, NoneFor, NewestValue, last-of-those, of-a-newer, TakenIn, momentIn, askedIn, readIn, NewestPromised}
+use Rattle.safety.specs.Newest.{Reading, NoneFor, NewestValue, last-of-those, of-a-newer, TakenIn, NewestRun, momentIn, askedIn, readIn, NewestPromise, NewestPromised}
 use Rattle.safety.proofs.Quorum.{majorities}
 use Rattle.safety.proofs.Time.{stamp-before}
 use Rattle.safety.proofs.Joins.{commit-within, times-ordered}
@@ -35,7 +34,7 @@ use Rattle.safety.proofs.Views.{fresh-seen, fits-time, first-beginning,
 use Rattle.safety.proofs.Answered.{key-of, value-of, latest-first}
 use Rattle.safety.proofs.SeenNewest.{Asked, asked-of, Read, read-of}
 use Rattle.safety.proofs.Stepped.{Now}
-use Rattle.safety.proofs.Promise.{ran, begun}
+use Rattle.safety.proofs.Promise.{Ran, ran, begun}
 
 -- ---- what is read
 
@@ -148,16 +147,31 @@ module _ {n : ℕ} {some : 0 < n} {w x y : Cluster} (W : Now n some w) (Y : Now 
 
 -- ---- the promise
 
+module _ {n : ℕ} (two : fewestServers ≤ n) (seven : n ≤ mostServers) (r : NewestRun n) where
+  some : 0 < n
+  some = omega arith
+
+  W : Ran n some (freshCluster n) (r .until)
+  W = ran (freshCluster n) (begun n some seven) (r .until) (r .steps-until)
+
+  X : Ran n some (momentIn r) (r .on)
+  X = ran (momentIn r) (W .now) (r .on) (r .steps-on)
+
+  pub asked-in : Asked (askedIn r) (r .a) (r .read)
+  asked-in = asked-of (askedIn r) (X .now .fits) (r .a) (r .read) (r .time) (r .asked)
+
+  Y : Ran n some (askedIn r) (WritesNothing (r .a) ∷ r .after)
+  Y = ran (askedIn r) (X .now) (WritesNothing (r .a) ∷ r .after) (asked-in .fits, λ e. not-both false e refl, r .steps-after)
+
+  pub read-in : Read (readIn r) (r .read)
+  read-in = read-of (readIn r) (Y .now .fits) (r .read) (r .answered)
+
+  promise : NewestPromise n (momentIn r) (readIn r) (r .a) (r .read)
+  promise =
+      record {
+        same-server = seen (W .now) (Y .now) (X .walk) (Y .walk) asked-in read-in 0 0 (omega arith) .same-server;
+        taken-in = λ s k l one cov. taken-in (W .now) (Y .now) (X .walk) (Y .walk) asked-in read-in s k l cov;
+      }
+
 pub newest-read : NewestPromised
-newest-read n two seven r =
-    let some : 0 < n = omega arith in
-    let W = ran (freshCluster n) (begun n some seven) (r .until) (r .steps-until) in
-    let X = ran (momentIn r) (W .now) (r .on) (r .steps-on) in
-    let asked = asked-of (askedIn r) (X .now .fits) (r .a) (r .read) (r .time) (r .asked) in
-    let fits : FitsStep (WritesNothing (r .a)) = omega (arith, asked .counted, X .now .counted) in
-    let Y = ran (askedIn r) (X .now) (WritesNothing (r .a) ∷ r .after) (fits, λ e. not-both false e refl, r .steps-after) in
-    let read = read-of (readIn r) (Y .now .fits) (r .read) (r .answered) in
-    record {
-      same-server = seen (W .now) (Y .now) (X .walk) (Y .walk) asked read 0 0 (omega arith) .same-server;
-      taken-in = λ s k l one cov. taken-in (W .now) (Y .now) (X .walk) (Y .walk) asked read s k l cov;
-    }
+newest-read n two seven r = promise two seven r

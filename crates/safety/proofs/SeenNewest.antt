@@ -1,4 +1,4 @@
--- Kinds 14 and 15 where they are answered: what the answers say of the servers.
+-- Kinds 14 and 15 where they are answered: what the answers say of the servers, and that the steps fit their bytes.
 -- Assumes nothing.
 use mathlib.Core.Path.{_≡_, refl, ap, sym, _∙_}
 use mathlib.Core.Bool.{true}
@@ -12,7 +12,7 @@ use Rattle.base.proofs.Bools.{and-left, and-right}
 use Rattle.clock.specs.declared.Time.{Time}
 use Rattle.clock.specs.Times.{tickOf}
 use Rattle.log.specs.Entries.{hasEntry, latestValue}
-use Rattle.log.specs.Logs.{live, lengthOf, appended}
+use Rattle.log.specs.Logs.{highestPosition, mayAsk, live, lengthOf, appended}
 use Rattle.log.specs.Order.{highestKey, noKey}
 use Rattle.log.proofs.Orderly.{Writing}
 use Rattle.log.proofs.Positions.{length-more}
@@ -22,18 +22,20 @@ use Rattle.cluster.specs.Servers.{serverCount, serverAt}
 use Rattle.cluster.proofs.Good.{good}
 use Rattle.steps.specs.declared.Step.the-variants.{WritesNothing}
 use Rattle.steps.specs.declared.Answer.the-variants as A
+use Rattle.steps.specs.Ranges.{FitsStep}
 use Rattle.singles.specs.Appends.{tickTime, newEntry}
 use Rattle.rules.specs.Rules.{rowOf, stepOf}
 use Rattle.safety.specs.NewestSeen.{Answers}
 use Rattle.safety.specs.View.{view}
 use Rattle.safety.specs.Promise.{entryOf, firstOf}
 use Rattle.safety.specs.Newest.{Reading, readingStep, readingAnswer}
+use Rattle.safety.proofs.Views.{in-range}
 use Rattle.safety.proofs.Answered.{answered-done}
 use Rattle.safety.proofs.SeenWrites.{roomy}
 
 -- kind 14 at a, answered with the reading's position and term
 pub record Asked (x : Cluster) (a : ℕ) (r : Reading) : Type 0 where
-  pub counted : a < x .count
+  pub fits : FitsStep (WritesNothing a)
   pub primary : view x a .primary ≡ true
   pub position : r .position ≡ suc (view x a .len)
   pub term : r .term ≡ view x a .term
@@ -48,7 +50,7 @@ asked-of x f a r time told =
     let l = roomy x (good x f (d .seen)) a e (d .clear .0) (d .clear .1) in
     let n : lengthOf (appended (s .log) e) ≡ r .position = cc (d .answers) in
     record {
-      counted = omega (arith, ltb-true a (serverCount x) (d .clear .0));
+      fits = omega (arith, ltb-true a (serverCount x) (d .clear .0));
       primary = d .clear .1 .0;
       position = sym n ∙ ap length l ∙ length-more (live (s .log)) e;
       term = cc (d .answers);
@@ -56,6 +58,7 @@ asked-of x f a r time told =
 
 -- kind 15 answered; each entry for its key has a value
 pub record Read (y : Cluster) (r : Reading) : Type 0 where
+  pub fits : FitsStep (readingStep r)
   pub counted : r .server < y .count
   pub answers : Answers (view y (r .server)) (r .term) (r .position)
   pub value : latestValue (r .key) (firstOf y (r .server) (r .position)) ≡ r .value
@@ -66,7 +69,7 @@ some-value : {key value : ℕ} → key ≤ highestKey → Writing key value → 
 some-value h w = ⊎-elim (λ x. x .1) (λ x. absurd (omega arith)) w
 
 pub read-of : (y : Cluster) → Fits y → (r : Reading) → stepOf y (readingStep r) .answer ≡ readingAnswer r → Read y r
-unfolding rowOf hasEntry
+unfolding rowOf hasEntry mayAsk
 read-of y f r told =
     let d = answered-done y (readingStep r) told refl in
     let k = d .clear .1 in
@@ -74,12 +77,16 @@ read-of y f r told =
     let below : r .server < y .count = omega (arith, ltb-true (r .server) (serverCount y) (d .clear .0)) in
     let key = leb-true (r .key) highestKey (k .0) in
     let within = leb-true (r .position) (length es) (and-left _ _ (k .1 .1 .1 .1 .0)) in
+    let few = in-range y (r .server) (d .clear .0) in
+    let position = leb-true (r .position) highestPosition (and-left _ _ (and-right (leb 1 (r .position)) _ (k .1 .0))) in
+    let term : serverAt y (r .server) .head .term ≡ r .term = eqb-true _ _ (k .1 .1 .1 .0) in
     record {
+      fits = omega (arith, few, key, position, term, f .each (r .server) few .head .term);
       counted = below;
       answers =
           record {
             primary = k .1 .1 .0;
-            term = eqb-true _ _ (k .1 .1 .1 .0);
+            term = term;
             entry = eqb-true _ _ (and-right (leb (r .position) (length es)) _ (k .1 .1 .1 .1 .0));
             reached = leb-true _ _ (k .1 .1 .1 .1 .1 .0);
           };
