@@ -11,7 +11,7 @@ use std::path::{Path, PathBuf};
 use std::process::ExitCode;
 
 /// Where the following starts: a module and what it defines.
-const ROOTS: [(&str, &str); 16] = [
+const ROOTS: [(&str, &str); 17] = [
     ("rules.Rules", "stepOf"),
     ("replay.Texts", "answers"),
     ("replay.Texts", "leaves"),
@@ -28,13 +28,14 @@ const ROOTS: [(&str, &str); 16] = [
     ("demand3.Promise", "EveryRun"),
     ("safety.Newest", "NewestPromised"),
     ("demand3.Newest", "NewestInTexts"),
+    ("demand3.Newest", "EveryNewestRun"),
 ];
 /// Modules that hold the words of claims and nothing else: all that they define.
 const WORDS: [&str; 2] = ["steps.Reasons", "rules.Statements"];
 /// What a type's module is named by, as `log.declared.Entry`, where its definition is its declaration.
 const DECLARED: &str = ".declared.";
 /// How many lines they may be.
-const MOST: usize = 730;
+const MOST: usize = 850;
 
 /// A definition by its module, as `log.Entries`, and its name.
 type Place = (String, String);

@@ -1,9 +1,10 @@
 -- The page of claims: whatever README and docs/DEMANDS.md say is proved, stated in full beside the theorem that has it. A theorem that
 -- says less, or is gone, is refused here. The words that it is stated in are definitions of specs/, but for `found` and `Good`, which the
--- claims about them decide, and the example's run. Assumes nothing.
+-- claims about them decide, and the examples' runs. Assumes nothing.
 use contract.Lifetimes.{Lfts}
 use denote.Ref.{RefT, now}
 use mathlib.Core.Path.{_≡_}
+use mathlib.Core.Logic.{_≢_}
 use mathlib.Core.Bool.{Bool, true, false, _||_}
 use mathlib.Core.List.{List, [], _∷_, _++_}
 use Prim.Native.Nat.{ℕ, _≤_, _<_, _*_, _/_, _%_, _^_}
@@ -28,7 +29,7 @@ use Rattle.cluster.specs.declared.Server.{Server}
 use Rattle.cluster.specs.Sets.{bits, membersOf, mostOf}
 use Rattle.cluster.proofs.Good as facts
 use Rattle.cluster.proofs.Masks as masks
-use Rattle.steps.specs.declared.Step.the-variants.{Start, Elect, ClocksAgree}
+use Rattle.steps.specs.declared.Step.the-variants.{Start, Elect, ClocksAgree, WritesNothing, NewestRead}
 use Rattle.steps.specs.Answers.{numberOf}
 use Rattle.steps.proofs.Numbers as numbers
 use Rattle.wholes.specs.Starts.{startRules}
@@ -45,7 +46,7 @@ use Rattle.frames.proofs.Lengths as step-lengths
 use Rattle.frames.proofs.Table as tables
 use Rattle.answers.specs.Answers.{answerBytes}
 use Rattle.answers.proofs.Lengths as answer-lengths
-use Rattle.safety.specs.Promise.{Kept}
+use Rattle.safety.specs.Promise.{StepsFrom, Kept}
 use Rattle.safety.proofs.Example as roof
 use Rattle.cluster.specs.declared.Cluster.{Cluster}
 use Rattle.cluster.specs.Ranges.{Fits}
@@ -103,12 +104,14 @@ use Rattle.shell.specs.Loop.{Drains}
 use Rattle.shell.proofs.Loop as loop
 use Rattle.safety.specs.Promise.{Promised}
 use Rattle.safety.proofs.Promise as safety
-use Rattle.safety.specs.Newest.{NewestPromised}
+use Rattle.safety.specs.Newest.{NewestPromised, NewestRun, readAfter}
 use Rattle.safety.proofs.Newest as newest
+use Rattle.safety.proofs.NewestExample as overtaken
 use Rattle.demand3.specs.Promise.{PromisedInTexts, Never9InTexts, Never9Written, EveryRun}
 use Rattle.demand3.proofs.Promise as lines
-use Rattle.demand3.specs.Newest.{NewestInTexts}
+use Rattle.demand3.specs.Newest.{NewestInTexts, EveryNewestRun}
 use Rattle.demand3.proofs.Newest as newest-lines
+use Rattle.demand3.proofs.NewestRuns as newest-runs
 use Rattle.demand3.proofs.Never9 as never-9
 use Rattle.demand3.proofs.Written as written
 use Rattle.demand3.proofs.Runs as runs
@@ -277,6 +280,22 @@ newest-over-steps = newest.newest-read
 
 pub newest-over-lines : NewestInTexts
 newest-over-lines = newest-lines.newest-read-text
+
+-- nothing of it is lost over lines
+pub every-newest-run-is-a-text : EveryNewestRun
+every-newest-run-is-a-text = newest-runs.every-newest-run
+
+-- it is no empty promise: there is a run with such a read, after a change of primaries; and a primary that has been overtaken appends its
+-- entry, and whatever steps come after, a read up to there is answered nowhere
+pub a-newest-read-is-answered : NewestRun 3
+a-newest-read-is-answered = overtaken.run
+
+pub an-overtaken-primary-appends : stepOf overtaken.behind (WritesNothing 0) .answer ≡ A.Entry 1 1 (record { p = 1; l = 0 })
+an-overtaken-primary-appends = overtaken.appends
+
+pub an-overtaken-primary-is-never-answered : (after : List Step) → StepsFrom (stepOf overtaken.behind (WritesNothing 0) .cluster) after
+    → (q key v : ℕ) (t : Time) → stepOf (readAfter overtaken.behind 0 after) (NewestRead q key 1 1) .answer ≢ A.Value v t
+an-overtaken-primary-is-never-answered = overtaken.never-answered
 
 -- ---- what the definitions mean, beside document 01
 

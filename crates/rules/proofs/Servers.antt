@@ -154,7 +154,7 @@ module _ {s t : Server} (h : ServerSound s) (k : ServerSound t) where
 
 -- ---- an entry that is appended
 
-ticked-to : (k : Ticked) → ticks k ≡ true → k ≡ To (tickTime k)
+pub ticked-to : (k : Ticked) → ticks k ≡ true → k ≡ To (tickTime k)
 ticked-to (To t) e = refl
 ticked-to AtLimit e = not-both false e refl
 

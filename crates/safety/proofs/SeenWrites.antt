@@ -1,16 +1,13 @@
 -- Kinds 6 and 14 as the view shows them: a primary appends an entry that is later than all of its log.
 -- Assumes nothing.
 use mathlib.Core.Path.{_≡_, refl, ap, _∙_}
-use mathlib.Core.Bool.{true, false}
+use mathlib.Core.Bool.{true}
 use mathlib.Core.List.{[], _∷_, _++_}
 use Prim.Native.Nat.{ℕ, suc, _<_}
 use native.Mathlib.Omega.{arith}
 use lib.Dec.{ltb}
 use lib.ListN.{length}
 use borrow.Author.Tests.{ltb-true}
-use Rattle.base.proofs.Bools.{not-both}
-use Rattle.clock.specs.declared.Ticked.{Ticked}
-use Rattle.clock.specs.declared.Ticked.the-variants.{To, AtLimit}
 use Rattle.clock.specs.Times.{tickOf}
 use Rattle.clock.proofs.Order.{then-before}
 use Rattle.clock.proofs.Ticks.{tick-after}
@@ -29,6 +26,7 @@ use Rattle.steps.specs.declared.Step.the-variants.{Writes, WritesNothing}
 use Rattle.steps.specs.Reasons.{Clear}
 use Rattle.singles.specs.Appends.{ticks, tickTime, appendRules, newEntry, stampedOf, appendDone}
 use Rattle.rules.specs.Rules.{rowOf}
+use Rattle.rules.proofs.Servers.{ticked-to}
 use Rattle.safety.specs.Quorum.{Quorums}
 use Rattle.safety.specs.Cluster.{ServerSeen}
 use Rattle.safety.specs.Steps.{writes, Goes}
@@ -37,10 +35,6 @@ use Rattle.safety.specs.View.{seenEntry, view}
 use Rattle.safety.proofs.Time.{before-stamp}
 use Rattle.safety.proofs.Views.{in-range, here, others, fits-time}
 use Rattle.safety.proofs.SeenQuiet.{Sees}
-
-ticked-to : (t : Ticked) → ticks t ≡ true → t ≡ To (tickTime t)
-ticked-to (To t) h = refl
-ticked-to AtLimit h = not-both false h refl
 
 -- the tick is past the cluster time, which is not before the applied time
 later-tick : (s : Server) → FitsServer s → ServerGood s → ticks (tickOf (s .head .wall) (s .head .time)) ≡ true
