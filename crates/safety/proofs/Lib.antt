@@ -1,4 +1,5 @@
--- The laws and proofs of the safety theory, and of the records that are joined to it: `Promise` has demand 3.
+-- The laws and proofs of the safety theory, and of the records that are joined to it: `Promise` has demand 3, and `Newest` the
+-- read that is sure to be newest.
 -- Assumes nothing.
 pub mod Quorum
 pub mod Time

@@ -1,4 +1,4 @@
--- Every view that a walk from a fresh cluster reaches has ghosts that keep the invariant, and they only grow where they still can.
+-- Every view that a walk from a fresh cluster reaches has ghosts that keep the invariant, and they only grow.
 -- Assumes nothing.
 use mathlib.Core.Path.{_≡_, refl, sym, _∙_}
 use mathlib.Core.Logic.{⊎-elim}

@@ -1,5 +1,6 @@
--- `Promise` is demand 3 as it is promised of records. The others are the safety theory's own words, from quorums up to demand 3 over a view
--- of the record: nobody has to believe those, since `Promise` is stated without them. Assumes nothing.
+-- `Promise` is demand 3 as it is promised of records, and `Newest` the read that is sure to be newest. The others are the safety theory's own
+-- words, from quorums up to both over a view of the record: nobody has to believe those, since these two are stated without them.
+-- Assumes nothing.
 pub mod Promise
 pub mod Newest
 pub mod Quorum
