@@ -1,10 +1,9 @@
--- Laws of `highest`: what it finds passes and none above it does; and for loops that look from the end or from the front. Assumes nothing.
+-- Laws of `highest`: what it finds passes and none above it does; and for loops that look from the end. Assumes nothing.
 use mathlib.Core.Path.{_≡_, refl, ap}
 use mathlib.Core.Bool.{Bool, true, false, cond}
 use mathlib.Core.Logic.{⊎-elim}
-use Prim.Native.Nat.{ℕ, zero, suc, _+_, _-_, _<_, _≤_}
+use Prim.Native.Nat.{ℕ, zero, suc, _-_, _<_, _≤_}
 use native.Mathlib.Nat.{eq-or-lt-of-le, le-of-suc-le-suc}
-use native.Mathlib.Numerals.{add-one}
 use native.Mathlib.Omega.{arith}
 use Rattle.base.specs.Numbers.{highest}
 
@@ -24,11 +23,6 @@ module _ (p : ℕ → Bool) where
   unfolding highest
   highest-none zero h = refl
   highest-none (suc k) h = rw (h (suc k) (omega arith)) (highest-none k (λ j l. h j (omega arith)))
-
-  -- looked for from the front
-  pub highest-front : (n : ℕ) → highest p (n + 1) ≡ cond (p (suc n)) (suc n) (highest p n)
-  unfolding highest
-  highest-front n = rw add-one
 
   -- what is found is one of the numbers
   pub highest-le : (n : ℕ) → highest p n ≤ n

@@ -1,11 +1,12 @@
--- The latest value: the entry that a read finds has the key and none later has; and its loop's invariant. Assumes nothing.
-use mathlib.Core.Path.{_≡_, refl, ap, _∙_}
+-- The latest value: the entry that a read finds has the key and none later has; and a walk from the end that finds it. Assumes nothing.
+use mathlib.Core.Path.{_≡_, refl, ap, sym, _∙_}
 use mathlib.Core.List.{List}
-use Prim.Native.Nat.{ℕ, suc, _+_, _<_, _≤_}
+use Prim.Native.Nat.{ℕ, _-_, _<_, _≤_}
+use lib.Dec.{eqb}
 use lib.ListN.{length}
 use borrow.Author.Tests.{eqb-true, eqb-false, eq-eqb, ne-eqb}
 use Rattle.base.specs.Numbers.{highest}
-use Rattle.base.proofs.Highest.{highest-front, highest-le, highest-passes, highest-above}
+use Rattle.base.proofs.Highest.{highest-here, highest-down, highest-le, highest-passes, highest-above}
 use Rattle.log.specs.declared.Entry.{Entry}
 use Rattle.log.specs.Entries.{entryAt, forKey, latestValue}
 
@@ -30,24 +31,26 @@ found-key key es h = eqb-true (entryAt es (found key es) .key) key (highest-pass
 pub found-last : (key : ℕ) (es : List Entry) (n : ℕ) → found key es < n → n ≤ length es → entryAt es n .key ≡ key → ⊥
 found-last key es n h l = eqb-false (entryAt es n .key) key (highest-above (forKey key es) (length es) n h l)
 
--- ---- a loop from the front
+-- ---- a walk from the end
 
--- v is the latest value among the first i
-pub record LatestUpto (key : ℕ) (es : List Entry) (i v : ℕ) : Type 0 where
-  pub so-far : v ≡ entryAt es (highest (forKey key es) i) .value
+-- what a read finds is among the first i
+pub record LatestWithin (key : ℕ) (es : List Entry) (i : ℕ) : Type 0 where
+  pub none-above : highest (forKey key es) (length es) ≡ highest (forKey key es) i
 
-pub latest-none : {key : ℕ} {es : List Entry} → LatestUpto key es 0 0
-unfolding highest entryAt
-latest-none = record { so-far = refl }
+pub latest-all : {key : ℕ} {es : List Entry} {i : ℕ} → i ≡ length es → LatestWithin key es i
+latest-all {key} {es} h = record { none-above = ap (highest (forKey key es)) (sym h) }
 
-module _ {key : ℕ} {es : List Entry} {i v : ℕ} (u : LatestUpto key es i v) (e : Entry) (q : entryAt es (suc i) ≡ e) where
-  pub latest-yes : e .key ≡ key → LatestUpto key es (i + 1) (e .value)
-  latest-yes h =
-      record { so-far = rw (highest-front (forKey key es) i, q, eq-eqb _ _ h) (rw q) }
+module _ {key : ℕ} {es : List Entry} {i : ℕ} (u : LatestWithin key es i) (e : Entry) (q : entryAt es i ≡ e) where
+  -- the walk ends at the first entry for the key
+  pub latest-here : (i ≡ 0 → ⊥) → e .key ≡ key → e .value ≡ latestValue key es
+  unfolding latestValue
+  latest-here some h =
+      let here : highest (forKey key es) (length es) ≡ i = u .none-above ∙ highest-here (forKey key es) i some (ap (λ (d : Entry). eqb (d .key) key) q ∙ eq-eqb _ _ h) in
+      sym (ap (λ (m : ℕ). entryAt es m .value) here ∙ ap (λ (d : Entry). d .value) q)
 
-  pub latest-no : (e .key ≡ key → ⊥) → LatestUpto key es (i + 1) v
-  latest-no h = record { so-far = rw (highest-front (forKey key es) i, q, ne-eqb _ _ h) (u .so-far) }
+  pub latest-below : (e .key ≡ key → ⊥) → LatestWithin key es (i - 1)
+  latest-below h = record { none-above = u .none-above ∙ highest-down (forKey key es) i (ap (λ (d : Entry). eqb (d .key) key) q ∙ ne-eqb _ _ h) }
 
-pub latest-all : {key : ℕ} {es : List Entry} {i v : ℕ} → LatestUpto key es i v → i ≡ length es → v ≡ latestValue key es
-unfolding latestValue
-latest-all {key} {es} u h = u .so-far ∙ ap (λ (m : ℕ). entryAt es (highest (forKey key es) m) .value) h
+pub latest-none : {key : ℕ} {es : List Entry} → LatestWithin key es 0 → 0 ≡ latestValue key es
+unfolding highest entryAt latestValue
+latest-none {es = es} u = sym (ap (λ (m : ℕ). entryAt es m .value) (u .none-above))

@@ -1,5 +1,6 @@
 // Entries, and one log by value: an entry array beside its length, slots past the length zero.
 ghost use mathlib.Core.Path.{_≡_};
+ghost use Prim.Native.Nat.{min};
 ghost use lib.ListN.{take};
 ghost use Rattle.log.specs.Entries.{zeroEntry, sameEntry, entryAt, lastTerm, appliedTime, commonBeginning, isBeginning, equalAt, hasEntry, latestValue};
 ghost use Rattle.log.specs.Logs.{mayAsk, emptyLog, live, lengthOf, appended, joined};
@@ -223,26 +224,29 @@ pub fn join(a: Log, b: Log, k: usize) -> Log
     h
 }
 
-// The value of the last entry for the key among the first n, 0 if there is none.
+// The last position that counts where the first n entries do.
+fn last_of(g: Log, n: usize) -> usize
+    ensures { λ r. ⌜ r ≡ min n (lengthOf g) ⌝ }
+{
+    let len = length_of(g);
+    if n < len { n } else { len }
+}
+
+// The value of the last entry for the key among the first n, looked for from the newest end; 0 if there is none.
 pub fn latest_value(g: Log, key: u8, n: usize) -> u16
     ensures { λ r. ⌜ r ≡ latestValue key (take n (live g)) ⌝ }
 {
-    let len = g.len;
-    let mut value = 0;
-    let mut i = 0;
-    while i < LOG_LIMIT {
-        if n <= i {
-            return value;
+    let mut i = last_of(g, n);
+    let value = loop {
+        if i < 1 {
+            break 0;
         }
-        if len <= i {
-            return value;
-        }
-        let e = g.entries[i];
+        let e = g.entries[i - 1];
         if e.key == key {
-            value = e.value;
+            break e.value;
         }
-        i += 1;
-    }
+        i -= 1;
+    };
     value
 }
 

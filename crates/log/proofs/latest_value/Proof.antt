@@ -2,46 +2,38 @@
 use Rattle.log.specs.Entries.{entryAt, zeroEntry}
 use Rattle.log.specs.declared.Log.{Log}
 use Rattle.log.proofs.Live.{length-live, entryAt-take, entryAt-slot}
-use Rattle.log.proofs.Latest.{LatestUpto, latest-none, latest-yes, latest-no, latest-all}
+use Rattle.log.proofs.Latest.{LatestWithin, latest-all, latest-here, latest-below, latest-none}
 use Rattle.log.specs.Logs.{live}
 use Rattle.base.proofs.Facts.{mapped-long}
 use native.Mathlib.Omega.{arith}
 use lib.ListN.{length, take, length-take, getD}
-use mathlib.Core.Logic.{⊎-elim}
-use mathlib.Core.Path.{_≡_, _∙_}
-use Prim.Native.Nat.{_≤_, _<_, _-_, ℕ, min, suc}
+use mathlib.Core.Path.{_≡_, ap, _∙_}
+use Prim.Native.Nat.{_≤_, _<_, _-_, ℕ, suc}
 use borrow.Author.Needs.{needs}
 use Rattle.log.proofs.latest_value.Statement.{statement}
 use Rattle.log.proofs.latest_value.Tie as tie
 
 abbrev Inv-loop : tie.InvT-loop
-Inv-loop key n g len value₀ i₀ value i = (i ≤ 32) × (i ≤ length (take n (live g))) × LatestUpto key (take n (live g)) i value
+Inv-loop key n g i₀ i = (i ≤ 32) × (i ≤ length (take n (live g))) × LatestWithin key (take n (live g)) i
 
 abbrev μ-loop : tie.MeasureT-loop
-μ-loop key n g len value₀ i₀ value i = 32 - i
+μ-loop key n g i₀ i = i
 
--- how many entries are looked at
-looked : (g : Log) (n : ℕ) → length (g .entries) ≡ 32 → length (take n (live g)) ≡ min n (min (g .len) 32)
-looked g n h = omega (arith, length-take n (live g), length-live g 32 h)
+-- a position among the first n entries has its slot before it
+slot : (g : Log) (n i : ℕ) → 1 ≤ i → i ≤ length (take n (live g)) → entryAt (take n (live g)) i ≡ getD (g .entries) (i - 1) zeroEntry
+slot g n i one h =
+    let z : i ≡ suc (i - 1) = omega arith in
+    ap (entryAt (take n (live g))) z ∙ entryAt-take n (suc (i - 1)) (live g) (omega (arith, length-take n (live g)))
+    ∙ entryAt-slot g (i - 1) (omega (arith, length-take n (live g), length-take (g .len) (g .entries)))
 
--- the entry in slot i is among them
-among : (g : Log) (n i : ℕ) → i < n → i < g .len → entryAt (take n (live g)) (suc i) ≡ getD (g .entries) i zeroEntry
-among g n i h l = entryAt-take n (suc i) (live g) h ∙ entryAt-slot g i l
+last-of-requires : tie.Need-last-of-requires Inv-loop μ-loop
+last-of-requires c κs = search needs
 
 loop-holds : tie.Need-loop-holds Inv-loop μ-loop
-loop-holds c = (search needs, search needs, latest-none)
-
-returns : tie.Need-returns Inv-loop μ-loop
-returns c =
-    let b = c .before .before in
-    let h : length (b .before .args .t1 .entries) ≡ 32 = search (needs, mapped-long) in
-    latest-all (b .loop .inv .2) (omega (arith, looked (b .before .args .t1) (b .before .args .n) h))
-
-returns-2 : tie.Need-returns-2 Inv-loop μ-loop
-returns-2 c =
-    let b = c .before .before .before in
-    let h : length (b .before .args .t1 .entries) ≡ 32 = search (needs, mapped-long) in
-    latest-all (b .loop .inv .2) (omega (arith, looked (b .before .args .t1) (b .before .args .n) h))
+loop-holds c =
+    let l : c .last-of .result ≡ length (take (c .before .args .n) (live (c .before .args .t1))) = omega (arith, c .last-of .ensures, length-take (c .before .args .n) (live (c .before .args .t1))) in
+    let h : length (c .before .args .t1 .entries) ≡ 32 = search (needs, mapped-long) in
+    (omega (arith, length-live (c .before .args .t1) 32 h, length-take (c .before .args .n) (live (c .before .args .t1))), omega arith, latest-all l)
 
 mul-e : tie.Need-mul-e Inv-loop μ-loop
 mul-e c = search needs
@@ -49,27 +41,26 @@ mul-e c = search needs
 element-copy-out-e : tie.Need-element-copy-out-e Inv-loop μ-loop
 element-copy-out-e c = search needs
 
-add-i : tie.Need-add-i Inv-loop μ-loop
-add-i c = search needs
-
 loop-less : tie.Need-loop-less Inv-loop μ-loop
 loop-less c = search needs
 
 loop-again : tie.Need-loop-again Inv-loop μ-loop
 loop-again c =
-    let b = c .before .before .before .before .before .before in
-    let h : length (b .before .args .t1 .entries) ≡ 32 = search (needs, mapped-long) in
-    let q = among (b .before .args .t1) (b .before .args .n) (b .loop .i) (search needs) (search needs) in (
-      search needs,
-      omega (arith, looked (b .before .args .t1) (b .before .args .n) h),
-      ⊎-elim (λ w. rw (w .1) (latest-yes (b .loop .inv .2) _ q (w .0 .taken))) (λ w. rw (w .1) (latest-no (b .loop .inv .2) _ q (w .0 .left))) (c .if3 .came),
-    )
+    let b = c .before .before .before .before in
+    let a = b .before .before .args in
+    (omega arith, omega arith, latest-below (b .loop .inv .2) _ (slot (a .t1) (a .n) (b .loop .i) (omega arith) (b .loop .inv .1)) (c .if2 .left))
 
-returns-3 : tie.Need-returns-3 Inv-loop μ-loop
-returns-3 c =
+returns : tie.Need-returns Inv-loop μ-loop
+returns c =
     let b = c .before in
-    let h : length (b .before .args .t1 .entries) ≡ 32 = search (needs, mapped-long) in
-    latest-all (b .loop .inv .2) (omega (arith, looked (b .before .args .t1) (b .before .args .n) h))
+    let z : b .loop .i ≡ 0 = omega arith in
+    latest-none (rw z at (b .loop .inv .2))
+
+returns-2 : tie.Need-returns-2 Inv-loop μ-loop
+returns-2 c =
+    let b = c .before .before .before .before in
+    let a = b .before .before .args in
+    latest-here (b .loop .inv .2) _ (slot (a .t1) (a .n) (b .loop .i) (omega arith) (b .loop .inv .1)) (λ z. omega arith) (c .if2 .taken)
 
 pub latest-value-spec : {M : Type 1} → statement M
 latest-value-spec =
@@ -77,12 +68,11 @@ latest-value-spec =
     (tie.spec
     Inv-loop
     μ-loop
+    last-of-requires
     loop-holds
-    returns
-    returns-2
     mul-e
     element-copy-out-e
-    add-i
     loop-less
     loop-again
-    returns-3)
+    returns
+    returns-2)
