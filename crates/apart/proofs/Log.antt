@@ -111,6 +111,19 @@ pub value-past-n : latestValue 5 (take 1 (live (log (x ∷ z ∷ [])))) ≡ 41
 unfolding highest entryAt latestValue
 value-past-n = refl
 
+pub reads-stop-before-position-1 : latestValue 5 (take 1 (live (log (x ∷ [])))) ≡ 41
+unfolding highest entryAt latestValue
+reads-stop-before-position-1 = refl
+
+pub reads-give-the-oldest : latestValue 5 (take 2 (live (log (x ∷ z ∷ [])))) ≡ 42
+unfolding highest entryAt latestValue
+reads-give-the-oldest = refl
+
+-- a length that is claimed beyond the slots, and a position past the end
+pub reads-end-where-the-log-does : latestValue 5 (take 10000 (live (record { entries = x ∷ replicate 31 zeroEntry; len = 10000 }))) ≡ 41
+unfolding highest entryAt latestValue
+reads-end-where-the-log-does = refl
+
 pub entry-ok-of-key-16 : entryOk 1 (entry 1 16 1 (at 1 0)) ≡ false
 unfolding entryOk
 entry-ok-of-key-16 = refl
