@@ -1,0 +1,6 @@
+-- Laws of mail that other rooms cite. Assumes nothing.
+pub mod Held
+pub mod Good
+pub mod Kept
+pub mod Ranges
+pub mod Results
