@@ -1,4 +1,4 @@
--- One server replaced and the others unchanged; all servers changed at once; a server with another head or log fits. Assumes nothing.
+-- One server replaced and the others unchanged; all servers changed at once; a server with another head, log or mail fits. Assumes nothing.
 use mathlib.Core.Path.{_≡_}
 use mathlib.Core.Logic.{_≢_}
 use Prim.Native.Nat.{ℕ, _<_}
@@ -8,11 +8,13 @@ use Rattle.base.proofs.Each.{each-at}
 use Rattle.base.specs.Lists.{each}
 use Rattle.log.specs.declared.Log.{Log}
 use Rattle.log.specs.Ranges.{FitsLog}
+use Rattle.mail.specs.declared.Mail.{Mail}
+use Rattle.mail.specs.Ranges.{FitsMail}
 use Rattle.cluster.specs.declared.Head.{Head}
 use Rattle.cluster.specs.declared.Server.{Server}
 use Rattle.cluster.specs.declared.Cluster.{Cluster}
 use Rattle.cluster.specs.Ranges.{FitsHead, FitsServer}
-use Rattle.cluster.specs.Servers.{withHead, withLog, pastServer, serverAt, withServer}
+use Rattle.cluster.specs.Servers.{withHead, withLog, withMail, pastServer, serverAt, withServer}
 
 module _ (c : Cluster) (a : ℕ) (s : Server) where
   pub replaced-here : a < length (c .servers) → serverAt (withServer c a s) a ≡ s
@@ -28,7 +30,10 @@ changed-at f c i h = each-at f (c .servers) i pastServer h
 
 module _ {s : Server} (f : FitsServer s) where
   pub fits-head : {h : Head} → FitsHead h → FitsServer (withHead s h)
-  fits-head k = record { head = k; log = f .log }
+  fits-head k = record { head = k; log = f .log; mail = f .mail }
 
   pub fits-log : {g : Log} → FitsLog g → FitsServer (withLog s g)
-  fits-log k = record { head = f .head; log = k }
+  fits-log k = record { head = f .head; log = k; mail = f .mail }
+
+  pub fits-mail : {m : Mail} → FitsMail m → FitsServer (withMail s m)
+  fits-mail k = record { head = f .head; log = f .log; mail = k }

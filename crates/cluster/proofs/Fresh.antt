@@ -19,6 +19,8 @@ use Rattle.log.specs.Ranges.{FitsLog}
 use Rattle.log.proofs.Tidy.{tidy-empty}
 use Rattle.log.proofs.Orderly.{Orderly}
 use Rattle.cluster.specs.Servers.{mostServers, fewestServers, withWall, withHead, zeroHead, zeroServer, freshServer, pastServer, serverAt, startedOf, freshCluster, zeroCluster}
+use Rattle.mail.proofs.Kept.{zero-good}
+use Rattle.mail.proofs.Ranges.{fits-zero-mail}
 use Rattle.cluster.specs.Ranges.{FitsServer, Fits}
 use Rattle.cluster.specs.WellFormed.{wellFormed}
 use Rattle.cluster.proofs.Changed.{changed-at}
@@ -59,6 +61,7 @@ good-fresh n two seven =
       at-least-two = two;
       at-most-seven = seven;
       counted = λ i l. rw (fresh-at n i l (omega arith)) fresh-good;
+      mailed = λ i l. rw (fresh-at n i l (omega arith)) zero-good;
       past = λ i l m. fresh-past n i l m;
     }
 
@@ -83,7 +86,7 @@ unfolding startedOf
 fits-started n i = ⊎-elim (λ l. rw (lt-ltb i n l) (plain 1 (omega arith))) (λ l. rw (le-ltb i n l) (plain 0 (omega arith))) (lt-or-le i n)
   where
     plain : (w : ℕ) → w ≤ 1 → FitsServer (withHead zeroServer (withWall zeroHead w))
-    plain w h = record { head = record { term = omega arith; commit = omega arith; wall = omega arith; time = fits-zero-time }; log = fits-empty }
+    plain w h = record { head = record { term = omega arith; commit = omega arith; wall = omega arith; time = fits-zero-time }; log = fits-empty; mail = fits-zero-mail }
 
 pub fits-fresh : (n : ℕ) → n ≤ mostServers → Fits (freshCluster n)
 fits-fresh n h =

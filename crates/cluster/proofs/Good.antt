@@ -4,7 +4,7 @@ use mathlib.Core.Bool.{Bool, true, false, cond, not, _&&_}
 use mathlib.Core.Logic.{⊎-elim}
 use Prim.Native.Nat.{ℕ, _<_, _≤_}
 use native.Mathlib.Omega.{arith}
-use lib.Dec.{eqb, ltb, leb}
+use lib.Dec.{eqb, leb}
 use lib.ListN.{length, replicate, getD-replicate}
 use lib.Seq.{ext-getD}
 use borrow.Author.Tests.{leb-true, le-leb, eqb-true, lt-ltb, le-ltb, not-true}
@@ -20,11 +20,15 @@ use Rattle.log.specs.Logs.{logLimit, live, emptyLog}
 use Rattle.log.specs.Order.{restZero, logOk}
 use Rattle.log.proofs.Orderly.{LogGood, log-good, good-log, rest-is, is-rest}
 use Rattle.log.proofs.Tidy.{tidy-empty}
+use Rattle.mail.specs.Mails.{zeroMail}
+use Rattle.mail.specs.Order.{mailOk}
+use Rattle.mail.proofs.Good.{MailGood, mail-good, good-mail}
+use Rattle.mail.proofs.Kept.{zero-mail-is, zero-mail-ok}
 use Rattle.cluster.specs.declared.Server.{Server}
 use Rattle.cluster.specs.declared.Cluster.{Cluster}
 use Rattle.cluster.specs.Servers.{fewestServers, mostServers, zeroServer, serverAt}
 use Rattle.cluster.specs.WellFormed.{numbersOk, countedOk, zeroOk, serverOk, wellFormed}
-use Rattle.cluster.specs.Ranges.{Fits}
+use Rattle.cluster.specs.Ranges.{FitsServer, Fits}
 
 -- ---- a counted server
 
@@ -74,9 +78,9 @@ empty-log-is g slots z r =
     (λ i h. rest-is g 0 slots r i (omega arith) ∙ sym (getD-replicate logLimit i zeroEntry zeroEntry (omega (arith, slots)))) in
     λ i. record { entries = e i; len = z i }
 
-pub zero-is : (s : Server) → length (s .log .entries) ≡ logLimit → zeroOk s ≡ true → s ≡ zeroServer
+pub zero-is : (s : Server) → length (s .log .entries) ≡ logLimit → zeroOk s ≡ true → s .mail ≡ zeroMail → s ≡ zeroServer
 unfolding zeroOk
-zero-is s slots h =
+zero-is s slots h told =
     let h2 = and-right (eqb (s .log .len) 0) _ h in
     let h3 = and-right (restZero (s .log) 0) _ h2 in
     let h4 = and-right (eqb (s .head .term) 0) _ h3 in
@@ -88,11 +92,17 @@ zero-is s slots h =
     let k = eqb-true (s .head .commit) 0 (and-left _ _ h5) in
     let w = eqb-true (s .head .wall) 0 (and-left _ _ h6) in
     let m = sameTime-eq (s .head .time) zeroTime (and-right (eqb (s .head .wall) 0) _ h6) in
-    λ i. record { head = record { term = t i; primary = p i; commit = k i; wall = w i; time = m i }; log = l i }
+    λ i. record { head = record { term = t i; primary = p i; commit = k i; wall = w i; time = m i }; log = l i; mail = told i }
 
 pub is-zero : (s : Server) → s ≡ zeroServer → zeroOk s ≡ true
 unfolding zeroOk
 is-zero s e = ap zeroOk e ∙ rw (is-rest emptyLog 0 (λ i h. tidy-empty .rest i h), sameTime-refl zeroTime)
+
+past-good : (i : ℕ) (s : Server) → FitsServer s → (zeroOk s && mailOk 0 i (s .mail)) ≡ true → s ≡ zeroServer
+past-good i s f h = zero-is s (f .log .slots) (and-left _ _ h) (zero-mail-is i (f .mail) (and-right (zeroOk s) _ h))
+
+good-past : (i : ℕ) (s : Server) → s ≡ zeroServer → (zeroOk s && mailOk 0 i (s .mail)) ≡ true
+good-past i s e = and-both _ _ (is-zero s e) (ap (λ (x : Server). mailOk 0 i (x .mail)) e ∙ zero-mail-ok i)
 
 -- ---- the record
 
@@ -100,6 +110,7 @@ pub record Good (c : Cluster) : Type 0 where
   pub at-least-two : fewestServers ≤ c .count
   pub at-most-seven : c .count ≤ mostServers
   pub counted : (i : ℕ) → i < c .count → ServerGood (serverAt c i)
+  pub mailed : (i : ℕ) → i < c .count → MailGood (c .count) i (serverAt c i .mail)
   pub past : (i : ℕ) → c .count ≤ i → i < mostServers → serverAt c i ≡ zeroServer
 
 pub good : (c : Cluster) → Fits c → wellFormed c ≡ true → Good c
@@ -110,14 +121,17 @@ good c f h =
     record {
       at-least-two = leb-true fewestServers (c .count) (and-left _ _ h);
       at-most-seven = seven;
-      counted = λ i l. server-good (serverAt c i) (f .each i (omega arith) .log .slots)
-          (rw (lt-ltb i (c .count) l) at (each h2 i (omega arith)));
-      past = λ i l m. zero-is (serverAt c i) (f .each i m .log .slots) (rw (le-ltb i (c .count) l) at (each h2 i m));
+      counted = λ i l. server-good (serverAt c i) (f .each i (omega arith) .log .slots) (and-left _ _ (inside i l (omega arith)));
+      mailed = λ i l. mail-good (f .each i (omega arith) .mail) (and-right (countedOk (serverAt c i)) _ (inside i l (omega arith)));
+      past = λ i l m. past-good i (serverAt c i) (f .each i m) (rw (le-ltb i (c .count) l) at (each h2 i m));
     }
   where
-    each : (leb (c .count) mostServers && every mostServers (λ i. cond (ltb i (c .count)) (countedOk (serverAt c i)) (zeroOk (serverAt c i)))) ≡ true
-        → (i : ℕ) → i < mostServers → cond (ltb i (c .count)) (countedOk (serverAt c i)) (zeroOk (serverAt c i)) ≡ true
+    each : (leb (c .count) mostServers && every mostServers (λ i. serverOk (c .count) i (serverAt c i))) ≡ true
+        → (i : ℕ) → i < mostServers → serverOk (c .count) i (serverAt c i) ≡ true
     each h i l = every-at _ mostServers i (and-right (leb (c .count) mostServers) _ h) l
+
+    inside : (i : ℕ) → i < c .count → i < mostServers → (countedOk (serverAt c i) && mailOk (c .count) i (serverAt c i .mail)) ≡ true
+    inside i l m = rw (lt-ltb i (c .count) l) at (each (and-right (leb fewestServers (c .count)) _ h) i m)
 
 pub well-formed : (c : Cluster) → Good c → wellFormed c ≡ true
 unfolding wellFormed serverOk
@@ -126,8 +140,8 @@ well-formed c g =
     (and-both _ _ (le-leb (c .count) mostServers (g .at-most-seven))
     (every-all _ mostServers (λ i m. ⊎-elim (λ l. in-place i l) (λ l. past-place i l m) (lt-or-le i (c .count)))))
   where
-    in-place : (i : ℕ) → i < c .count → cond (ltb i (c .count)) (countedOk (serverAt c i)) (zeroOk (serverAt c i)) ≡ true
-    in-place i l = rw (lt-ltb i (c .count) l) (good-server (serverAt c i) (g .counted i l))
+    in-place : (i : ℕ) → i < c .count → serverOk (c .count) i (serverAt c i) ≡ true
+    in-place i l = rw (lt-ltb i (c .count) l) (and-both _ _ (good-server (serverAt c i) (g .counted i l)) (good-mail (g .mailed i l)))
 
-    past-place : (i : ℕ) → c .count ≤ i → i < mostServers → cond (ltb i (c .count)) (countedOk (serverAt c i)) (zeroOk (serverAt c i)) ≡ true
-    past-place i l m = rw (le-ltb i (c .count) l) (is-zero (serverAt c i) (g .past i l m))
+    past-place : (i : ℕ) → c .count ≤ i → i < mostServers → serverOk (c .count) i (serverAt c i) ≡ true
+    past-place i l m = rw (le-ltb i (c .count) l) (good-past i (serverAt c i) (g .past i l m))

@@ -1,5 +1,4 @@
 -- Each public function's contract allows one result, whatever the arguments. Assumes nothing.
-use mathlib.Core.Bool.{Bool}
 use Prim.Native.Nat.{ℕ, min}
 use Rattle.base.proofs.Results.{OneResult, one-result}
 use Rattle.cluster.specs.declared.Cluster.{Cluster}
@@ -70,8 +69,8 @@ counted-ok s = one-result (countedOk s)
 pub zero-ok : (s : Server) → OneResult (λ x. zero-ok-reads.Learnt tt (s, tt) x (s, tt))
 zero-ok s = one-result (zeroOk s)
 
-pub server-ok : (s : Server) (counted : Bool) → OneResult (λ x. server-ok-reads.Learnt tt (s, (counted, tt)) x (s, (counted, tt)))
-server-ok s counted = one-result (serverOk counted s)
+pub server-ok : (s : Server) (n i : ℕ) → OneResult (λ x. server-ok-reads.Learnt tt (s, (n, (i, tt))) x (s, (n, (i, tt))))
+server-ok s n i = one-result (serverOk n i s)
 
 pub well-formed : (c : Cluster) → OneResult (λ x. well-formed-reads.Learnt tt (c, tt) x (c, tt))
 well-formed c = one-result (wellFormed c)

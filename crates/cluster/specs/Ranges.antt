@@ -5,6 +5,7 @@ use lib.ListN.{length}
 use Rattle.clock.specs.Times.{limit}
 use Rattle.clock.specs.Ranges.{FitsTime}
 use Rattle.log.specs.Ranges.{FitsLog}
+use Rattle.mail.specs.Ranges.{FitsMail}
 use Rattle.cluster.specs.declared.Head.{Head}
 use Rattle.cluster.specs.declared.Server.{Server}
 use Rattle.cluster.specs.declared.Cluster.{Cluster}
@@ -19,6 +20,7 @@ pub record FitsHead (h : Head) : Type 0 where
 pub record FitsServer (s : Server) : Type 0 where
   pub head : FitsHead (s .head)
   pub log : FitsLog (s .log)
+  pub mail : FitsMail (s .mail)
 
 pub record Fits (c : Cluster) : Type 0 where
   pub count : c .count < 2 ^ 64

@@ -9,6 +9,8 @@ use Rattle.clock.specs.declared.Time.{Time}
 use Rattle.clock.specs.Times.{zeroTime}
 use Rattle.log.specs.declared.Log.{Log}
 use Rattle.log.specs.Logs.{emptyLog}
+use Rattle.mail.specs.declared.Mail.{Mail}
+use Rattle.mail.specs.Mails.{zeroMail, emptied}
 use Rattle.cluster.specs.declared.Head.{Head}
 use Rattle.cluster.specs.declared.Server.{Server}
 use Rattle.cluster.specs.declared.Cluster.{Cluster}
@@ -40,25 +42,29 @@ abbrev pub withTime : Head → Time → Head
 withTime h t = record { term = h .term; primary = h .primary; commit = h .commit; wall = h .wall; time = t }
 
 abbrev pub withHead : Server → Head → Server
-withHead s h = record { head = h; log = s .log }
+withHead s h = record { head = h; log = s .log; mail = s .mail }
 
 abbrev pub withLog : Server → Log → Server
-withLog s g = record { head = s .head; log = g }
+withLog s g = record { head = s .head; log = g; mail = s .mail }
+
+abbrev pub withMail : Server → Mail → Server
+withMail s m = record { head = s .head; log = s .log; mail = m }
 
 -- all zero, secondary
 abbrev pub zeroHead : Head
 zeroHead = record { term = 0; primary = false; commit = 0; wall = 0; time = zeroTime }
 
 abbrev pub zeroServer : Server
-zeroServer = record { head = zeroHead; log = emptyLog }
+zeroServer = record { head = zeroHead; log = emptyLog; mail = zeroMail }
 
--- secondary, term 0, log empty, commit point 0, wall clock 1, cluster time (0,0)
+-- secondary, term 0, log empty, commit point 0, wall clock 1, cluster time (0,0); no note, no report, no source
 abbrev pub freshServer : Server
 freshServer = withHead zeroServer (withWall zeroHead 1)
 
 -- what the language takes for an element past an array's end
 abbrev pub pastServer : Server
-pastServer = withLog zeroServer (record { entries = []; len = 0 })
+pastServer =
+    withMail (withLog zeroServer (record { entries = []; len = 0 })) (record { notes = []; queue = record { reports = []; len = 0 }; source = 0 })
 
 -- the server count, cut at seven so that it is one for every record
 abbrev pub serverCount : Cluster → ℕ
@@ -82,9 +88,11 @@ freshCluster n = record { count = n; servers = each (startedOf n) (zeroCluster .
 abbrev pub withServer : Cluster → ℕ → Server → Cluster
 withServer c i s = record { count = c .count; servers = set (c .servers) i s }
 
--- server i after an election of a by the set m into the term t: every member has the term; a primary, other members secondary
+-- server i after an election of a by the set m into the term t: every member has the term; a primary, other members secondary; a has no
+-- notes and no reports
 unfoldable pub votedOf : ℕ → ℕ → ℕ → ℕ → Server → Server
-votedOf a m t i s = cond (member m i) (withHead s (withPrimary (withTerm (s .head) t) (eqb i a))) s
+votedOf a m t i s =
+    cond (member m i) (withMail (withHead s (withPrimary (withTerm (s .head) t) (eqb i a))) (cond (eqb i a) (emptied (s .mail)) (s .mail))) s
 
 abbrev pub electedAll : Cluster → ℕ → ℕ → ℕ → Cluster
 electedAll c a m t = record { count = c .count; servers = each (votedOf a m t) (c .servers) }

@@ -1,11 +1,13 @@
 -- Which records are well formed, as 01 words it. Assumes nothing.
 use mathlib.Core.Bool.{Bool, true, cond, not, _&&_}
+use Prim.Native.Nat.{ℕ}
 use lib.Dec.{eqb, ltb, leb}
 use Rattle.base.specs.Numbers.{every}
 use Rattle.clock.specs.Times.{zeroTime, isBefore, sameTime}
 use Rattle.log.specs.Entries.{appliedTime}
 use Rattle.log.specs.Logs.{live}
 use Rattle.log.specs.Order.{restZero, logOk}
+use Rattle.mail.specs.Order.{mailOk}
 use Rattle.cluster.specs.declared.Server.{Server}
 use Rattle.cluster.specs.declared.Cluster.{Cluster}
 use Rattle.cluster.specs.Servers.{fewestServers, mostServers, serverAt}
@@ -19,18 +21,19 @@ unfoldable pub countedOk : Server → Bool
 countedOk s =
     logOk (s .head .term) (s .log) && (not (isBefore (s .head .time) (appliedTime (live (s .log)))) && numbersOk s)
 
--- a server past the count: zero, secondary
+-- a server past the count: zero, secondary; its mail is looked at apart
 unfoldable pub zeroOk : Server → Bool
 zeroOk s =
     eqb (s .log .len) 0
     && (restZero (s .log) 0
     && (eqb (s .head .term) 0 && (not (s .head .primary) && (eqb (s .head .commit) 0 && (eqb (s .head .wall) 0 && sameTime (s .head .time) zeroTime)))))
 
-unfoldable pub serverOk : Bool → Server → Bool
-serverOk counted s = cond counted (countedOk s) (zeroOk s)
+-- server i, where so many are counted: past the count, where nobody is, its mail is all zero too
+unfoldable pub serverOk : ℕ → ℕ → Server → Bool
+serverOk n i s = cond (ltb i n) (countedOk s && mailOk n i (s .mail)) (zeroOk s && mailOk 0 i (s .mail))
 
 -- the server count is 2 to 7, and each server is as its place asks
 unfoldable pub wellFormed : Cluster → Bool
 wellFormed c =
     leb fewestServers (c .count)
-    && (leb (c .count) mostServers && every mostServers (λ i. serverOk (ltb i (c .count)) (serverAt c i)))
+    && (leb (c .count) mostServers && every mostServers (λ i. serverOk (c .count) i (serverAt c i)))

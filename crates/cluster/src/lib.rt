@@ -5,6 +5,7 @@ ghost use Rattle.cluster.specs.Servers.{mostServers, zeroServer, freshSe
 ghost use Rattle.cluster.specs.WellFormed.{numbersOk, countedOk, zeroOk, serverOk, wellFormed};
 use clock::Time;
 use log::Log;
+use mail::Mail;
 
 pub mod sets;
 
@@ -17,10 +18,11 @@ pub struct Head {
     pub time: Time,
 }
 
-// What comes later stands beside the two: a step names what it changes, `Server { head: h, ..s }`.
+// A step names what it changes, `Server { head: h, ..s }`.
 pub struct Server {
     pub head: Head,
     pub log: Log,
+    pub mail: Mail,
 }
 
 pub struct Cluster {
@@ -50,6 +52,7 @@ const ZERO_HEAD: Head = Head {
 pub const ZERO_SERVER: Server = Server {
     head: ZERO_HEAD,
     log: log::EMPTY_LOG,
+    mail: mail::ZERO_MAIL,
 };
 
 pub const FRESH_SERVER: Server = Server {
@@ -114,22 +117,33 @@ pub fn with_server(c: Cluster, i: usize, s: Server) -> Cluster
     d
 }
 
-// Server i after an election of a by the set: a member has the new term, and only a is primary.
+// Server i after an election of a by the set: a member has the new term, and only a is primary, with nothing told yet.
 pub fn voted(s: Server, i: usize, a: usize, set: u8, term: u16) -> Server
     ensures { λ r. ⌜ r ≡ votedOf a set term i s ⌝ }
 {
-    if sets::is_member(set, i) {
-        let h = s.head;
-        Server {
+    if !sets::is_member(set, i) {
+        return s;
+    }
+    let h = s.head;
+    let m = s.mail;
+    if i != a {
+        return Server {
             head: Head {
                 term: term,
-                primary: i == a,
+                primary: false,
                 ..h
             },
             ..s
-        }
-    } else {
-        s
+        };
+    }
+    Server {
+        head: Head {
+            term: term,
+            primary: true,
+            ..h
+        },
+        mail: mail::emptied(m),
+        ..s
     }
 }
 
@@ -258,10 +272,21 @@ pub fn zero_ok(s: Server) -> bool
     clock::same_time(t, clock::ZERO_TIME)
 }
 
-pub fn server_ok(s: Server, counted: bool) -> bool
-    ensures { λ r. ⌜ r ≡ serverOk counted s ⌝ }
+// Whether server i may stand there where so many are counted.
+pub fn server_ok(s: Server, n: usize, i: usize) -> bool
+    ensures { λ r. ⌜ r ≡ serverOk n i s ⌝ }
 {
-    if counted { counted_ok(s) } else { zero_ok(s) }
+    let m = s.mail;
+    if i < n {
+        if !counted_ok(s) {
+            return false;
+        }
+        return mail::mail_ok(m, n, i);
+    }
+    if !zero_ok(s) {
+        return false;
+    }
+    mail::mail_ok(m, 0, i)
 }
 
 // Whether a record is well formed; total on any record at all.
@@ -278,7 +303,7 @@ pub fn well_formed(c: Cluster) -> bool
     let mut i = 0;
     while i < MOST_SERVERS {
         let s = c.servers[i];
-        if !server_ok(s, i < count) {
+        if !server_ok(s, count, i) {
             return false;
         }
         i += 1;

@@ -10,38 +10,36 @@ use Rattle.log.specs.declared.Entry.{Entry}
 use Rattle.log.specs.Entries.{entryAt}
 use Rattle.log.specs.Logs.{live, lengthOf}
 use Rattle.cluster.specs.declared.Server.{Server}
-use Rattle.cluster.specs.declared.Cluster.{Cluster}
-use Rattle.cluster.specs.Servers.{serverCount}
 use Rattle.counts.specs.Advances.{backers, passes, highestPassing}
 
 -- ---- 01's sentence
 
-module _ (c : Cluster) (s : Server) where
-  pub passing-passes : 1 ≤ highestPassing c s → passes c s (highestPassing c s) ≡ true
+module _ (size : ℕ) (s : Server) (a : ℕ) where
+  pub passing-passes : 1 ≤ highestPassing size s a → passes size s a (highestPassing size s a) ≡ true
   unfolding highestPassing
-  passing-passes h = highest-passes (passes c s) (lengthOf (s .log)) h
+  passing-passes h = highest-passes (passes size s a) (lengthOf (s .log)) h
 
-  pub passing-highest : (n : ℕ) → highestPassing c s < n → n ≤ lengthOf (s .log) → passes c s n ≡ false
+  pub passing-highest : (n : ℕ) → highestPassing size s a < n → n ≤ lengthOf (s .log) → passes size s a n ≡ false
   unfolding highestPassing
-  passing-highest n h l = highest-above (passes c s) (lengthOf (s .log)) n h l
+  passing-highest n h l = highest-above (passes size s a) (lengthOf (s .log)) n h l
 
 -- ---- the loop
 
-pub passes-low : (c : Cluster) (s : Server) (n : ℕ) → n ≤ s .head .commit → passes c s n ≡ false
+pub passes-low : (size : ℕ) (s : Server) (a n : ℕ) → n ≤ s .head .commit → passes size s a n ≡ false
 unfolding passes
-passes-low c s n h = rw (le-ltb (s .head .commit) n h)
+passes-low size s a n h = rw (le-ltb (s .head .commit) n h)
 
 -- e is the entry at n, and k servers back it
-module _ (c : Cluster) (s : Server) (n : ℕ) (e : Entry) (k : ℕ) (h : s .head .commit < n) (l : n ≤ lengthOf (s .log)) (p : e ≡ entryAt (live (s .log)) n) (q : k ≡ backers c s n) where
-  passes-is : passes c s n ≡ (eqb (e .term) (s .head .term) && ltb (serverCount c) (k * 2))
+module _ (size : ℕ) (s : Server) (a n : ℕ) (e : Entry) (k : ℕ) (h : s .head .commit < n) (l : n ≤ lengthOf (s .log)) (p : e ≡ entryAt (live (s .log)) n) (q : k ≡ backers size s a n) where
+  passes-is : passes size s a n ≡ (eqb (e .term) (s .head .term) && ltb size (k * 2))
   unfolding passes
   passes-is = simp (lt-ltb (s .head .commit) n h, le-leb n (lengthOf (s .log)) l, ← p, ← q)
 
-  pub passes-yes : e .term ≡ s .head .term → serverCount c < k * 2 → passes c s n ≡ true
-  passes-yes a b = passes-is ∙ simp (eq-eqb (e .term) (s .head .term) a, lt-ltb (serverCount c) (k * 2) b)
+  pub passes-yes : e .term ≡ s .head .term → size < k * 2 → passes size s a n ≡ true
+  passes-yes x b = passes-is ∙ simp (eq-eqb (e .term) (s .head .term) x, lt-ltb size (k * 2) b)
 
-  pub passes-old : (e .term ≡ s .head .term → ⊥) → passes c s n ≡ false
-  passes-old a = passes-is ∙ simp (ne-eqb (e .term) (s .head .term) a)
+  pub passes-old : (e .term ≡ s .head .term → ⊥) → passes size s a n ≡ false
+  passes-old x = passes-is ∙ simp (ne-eqb (e .term) (s .head .term) x)
 
-  pub passes-few : k * 2 ≤ serverCount c → passes c s n ≡ false
-  passes-few b = passes-is ∙ rw (le-ltb (serverCount c) (k * 2) b) (and-no (eqb (e .term) (s .head .term)) false refl)
+  pub passes-few : k * 2 ≤ size → passes size s a n ≡ false
+  passes-few b = passes-is ∙ rw (le-ltb size (k * 2) b) (and-no (eqb (e .term) (s .head .term)) false refl)

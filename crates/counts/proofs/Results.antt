@@ -1,8 +1,9 @@
 -- Each public function's contract allows one result, whatever the arguments. Assumes nothing.
-use Prim.Native.Nat.{ℕ}
+use Prim.Native.Nat.{ℕ, min}
 use Rattle.base.proofs.Results.{OneResult, one-result}
 use Rattle.cluster.specs.declared.Cluster.{Cluster}
 use Rattle.cluster.specs.declared.Server.{Server}
+use Rattle.cluster.specs.Servers.{mostServers}
 use Rattle.counts.specs.Acknowledged.{acknowledgedOf, holders, isAcknowledged}
 use Rattle.counts.specs.Advances.{advancesOf, backs, highestPassing}
 use Rattle.counts.proofs.advances.does_back.Reads as does-back-reads
@@ -12,11 +13,11 @@ use Rattle.counts.proofs.acknowledged.holders_of.Reads as holders-of-re
 use Rattle.counts.proofs.acknowledged.is_acknowledged.Reads as is-acknowledged-reads
 use Rattle.counts.proofs.acknowledged.acknowledged.Reads as acknowledged-reads
 
-pub does-back : (s : Server) (n : ℕ) (t : Server) → OneResult (λ x. does-back-reads.Learnt tt (s, (n, (t, tt))) x (s, (n, (t, tt))))
-does-back s n t = one-result (backs s n t)
+pub does-back : (s : Server) (a n i : ℕ) → OneResult (λ x. does-back-reads.Learnt tt (s, (a, (n, (i, tt)))) x (s, (a, (n, (i, tt)))))
+does-back s a n i = one-result (backs s a n i)
 
-pub highest-passing : (c : Cluster) (s : Server) → OneResult (λ x. highest-passing-reads.Learnt tt (c, (s, tt)) x (c, (s, tt)))
-highest-passing c s = one-result (highestPassing c s)
+pub highest-passing : (n : ℕ) (s : Server) (a : ℕ) → OneResult (λ x. highest-passing-reads.Learnt tt (n, (s, (a, tt))) x (n, (s, (a, tt))))
+highest-passing n s a = one-result (highestPassing (min n mostServers) s a)
 
 pub advances : (c : Cluster) (a : ℕ) → OneResult (λ x. advances-reads.Learnt tt (c, (a, tt)) x (c, (a, tt)))
 advances c a = one-result (advancesOf c a)

@@ -1,11 +1,12 @@
 -- Kind 7: a advances its commit point. Assumes nothing.
 use mathlib.Core.List.{[], _∷_}
-use mathlib.Core.Bool.{Bool, _&&_}
+use mathlib.Core.Bool.{Bool, _&&_, _||_}
 use Prim.Native.Nat.{ℕ}
 use lib.Dec.{eqb, ltb, leb}
 use Rattle.base.specs.Numbers.{count, highest}
-use Rattle.log.specs.Entries.{entryAt, equalAt}
+use Rattle.log.specs.Entries.{entryAt}
 use Rattle.log.specs.Logs.{live, lengthOf}
+use Rattle.mail.specs.Mails.{noteAt}
 use Rattle.cluster.specs.declared.Server.{Server}
 use Rattle.cluster.specs.declared.Cluster.{Cluster}
 use Rattle.cluster.specs.Servers.{withCommit, withHead, serverCount, serverAt, withServer}
@@ -16,31 +17,34 @@ use Rattle.steps.specs.declared.Refusal.the-variants.{OutOfRange, WrongRole, Co
 use Rattle.steps.specs.Refusals.{Rules, decided}
 use Rattle.steps.specs.Answers.{refusingAll}
 
--- server t counts for position n at s: it has s's term and an equal entry at n
-unfoldable pub backs : Server → ℕ → Server → Bool
-backs s n t = eqb (t .head .term) (s .head .term) && equalAt (live (t .log)) (live (s .log)) n
+-- server i counts for position n at s, which is server a: it is a itself, or s's note about it has both terms equal to s's term and a
+-- length that reaches n
+unfoldable pub backs : Server → ℕ → ℕ → ℕ → Bool
+backs s a n i =
+    eqb i a
+    || (eqb (noteAt (s .mail) i .term) (s .head .term) && (eqb (noteAt (s .mail) i .last) (s .head .term) && leb n (noteAt (s .mail) i .len)))
 
--- how many servers do
-abbrev pub backers : Cluster → Server → ℕ → ℕ
-backers c s n = count (serverCount c) (λ i. backs s n (serverAt c i))
+-- how many of the servers do
+abbrev pub backers : ℕ → Server → ℕ → ℕ → ℕ
+backers size s a n = count size (backs s a n)
 
 -- position n is above s's commit point and at most its length, entry n has s's current term, and a majority of servers back it
-unfoldable pub passes : Cluster → Server → ℕ → Bool
-passes c s n =
+unfoldable pub passes : ℕ → Server → ℕ → ℕ → Bool
+passes size s a n =
     ltb (s .head .commit) n
     && (leb n (lengthOf (s .log))
-    && (eqb (entryAt (live (s .log)) n .term) (s .head .term) && mostOf (serverCount c) (backers c s n)))
+    && (eqb (entryAt (live (s .log)) n .term) (s .head .term) && mostOf size (backers size s a n)))
 
 -- the highest position that passes, 0 if none does
-unfoldable pub highestPassing : Cluster → Server → ℕ
-highestPassing c s = highest (passes c s) (lengthOf (s .log))
+unfoldable pub highestPassing : ℕ → Server → ℕ → ℕ
+highestPassing size s a = highest (passes size s a) (lengthOf (s .log))
 
 -- a primary; some position passes
 abbrev pub advanceRules : Cluster → ℕ → Rules
 advanceRules c a =
     (ltb a (serverCount c), OutOfRange)
     ∷ (serverAt c a .head .primary, WrongRole)
-    ∷ (leb 1 (highestPassing c (serverAt c a)), ConditionUnmet)
+    ∷ (leb 1 (highestPassing (serverCount c) (serverAt c a) a), ConditionUnmet)
     ∷ []
 
 -- the server with this commit point
@@ -51,8 +55,8 @@ committedOf s n = withHead s (withCommit (s .head) n)
 abbrev pub advanceDone : Cluster → ℕ → Outcome
 advanceDone c a =
     record {
-      cluster = withServer c a (committedOf (serverAt c a) (highestPassing c (serverAt c a)));
-      answer = Reached (highestPassing c (serverAt c a));
+      cluster = withServer c a (committedOf (serverAt c a) (highestPassing (serverCount c) (serverAt c a) a));
+      answer = Reached (highestPassing (serverCount c) (serverAt c a) a);
     }
 
 abbrev pub advancesOf : Cluster → ℕ → Outcome

@@ -1,5 +1,7 @@
 // Kind 7: a advances its commit point.
 ghost use mathlib.Core.Path.{_≡_};
+ghost use Prim.Native.Nat.{min};
+ghost use Rattle.cluster.specs.Servers.{mostServers};
 ghost use Rattle.counts.specs.Advances.{backs, highestPassing, advancesOf};
 use cluster::Cluster;
 use cluster::Head;
@@ -8,23 +10,29 @@ use steps::Answer;
 use steps::Outcome;
 use steps::Refusal;
 
-// Whether t counts for position n at s.
-pub fn does_back(s: Server, n: usize, t: Server) -> bool
-    ensures { λ r. ⌜ r ≡ backs s n t ⌝ }
+// Whether server i counts for position n at s, which is server a.
+pub fn does_back(s: Server, a: usize, n: usize, i: usize) -> bool
+    ensures { λ r. ⌜ r ≡ backs s a n i ⌝ }
 {
-    if t.head.term != s.head.term {
+    if i == a {
+        return true;
+    }
+    let m = s.mail;
+    let note = mail::note_at(m, i);
+    if note.term != s.head.term {
         return false;
     }
-    let g = t.log;
-    let h = s.log;
-    log::equal_at(g, h, n)
+    if note.last != s.head.term {
+        return false;
+    }
+    n <= note.len as usize
 }
 
-// The highest position that passes at s, looked for from the log's end; 0 if none does.
-pub fn highest_passing(c: Cluster, s: Server) -> usize
-    ensures { λ r. ⌜ r ≡ highestPassing c s ⌝ }
+// The highest position that passes at s, which is server a where so many are counted, looked for from the log's end; 0 if none does.
+pub fn highest_passing(count: usize, s: Server, a: usize) -> usize
+    ensures { λ r. ⌜ r ≡ highestPassing (min count mostServers) s a ⌝ }
 {
-    let size = cluster::server_count(c.count);
+    let size = cluster::server_count(count);
     let g = s.log;
     let mut n = log::length_of(g);
     let found = loop {
@@ -34,8 +42,7 @@ pub fn highest_passing(c: Cluster, s: Server) -> usize
         let mut k = 0;
         let mut i = 0;
         while i < size {
-            let t = c.servers[i];
-            if does_back(s, n, t) {
+            if does_back(s, a, n, i) {
                 k += 1;
             }
             i += 1;
@@ -61,7 +68,7 @@ pub fn advances(c: Cluster, a: usize) -> Outcome
     if !s.head.primary {
         return steps::refuse_all(c, Refusal::WrongRole);
     }
-    let n = highest_passing(c, s);
+    let n = highest_passing(c.count, s, a);
     if n < 1 {
         return steps::refuse_all(c, Refusal::ConditionUnmet);
     }

@@ -9,7 +9,7 @@ use Rattle.cluster.specs.Servers.{fewestServers, mostServers, freshCluster}
 use Rattle.steps.specs.declared.Answer.the-variants.{Done}
 use Rattle.steps.specs.declared.Outcome.{Outcome}
 use Rattle.steps.specs.declared.Step.{Step}
-use Rattle.steps.specs.declared.Step.the-variants.{Start, Elect, StepDown, Hears, Pulls, RollsBack, Writes, Advances, WallClock, Restarts, LocalRead, MajorityRead, Acknowledged, ClocksAgree, WritesNothing, NewestRead}
+use Rattle.steps.specs.declared.Step.the-variants.{Start, Elect, StepDown, Hears, Pulls, RollsBack, Writes, Advances, WallClock, Restarts, LocalRead, MajorityRead, Acknowledged, ClocksAgree, WritesNothing, NewestRead, TakesReport}
 use Rattle.steps.specs.Reasons.{Clear}
 use Rattle.wholes.specs.Starts.{startRules}
 use Rattle.rules.specs.Rules.{rowOf, isStart, stepOf}
@@ -38,6 +38,7 @@ start-of (Acknowledged a k n term) e = not-both false e refl
 start-of ClocksAgree e = not-both false e refl
 start-of (WritesNothing a) e = not-both false e refl
 start-of (NewestRead a key n term) e = not-both false e refl
+start-of (TakesReport a) e = not-both false e refl
 
 -- a line is the step that it reads as
 pub answer-is : (c : Cluster) (line : Line) (s : Step) → readStep line ≡ R.Step s → answerTo c line ≡ stepOf c s

@@ -4,6 +4,10 @@ use Rattle.base.proofs.Results.{OneResult, one-result}
 use Rattle.clock.specs.declared.Time.{Time}
 use Rattle.log.specs.declared.Entry.{Entry}
 use Rattle.log.specs.declared.Log.{Log}
+use Rattle.mail.specs.declared.Mail.{Mail}
+use Rattle.mail.specs.declared.Queue.{Queue}
+use Rattle.mail.specs.declared.Report.{Report}
+use Rattle.mail.specs.declared.Note.{Note}
 use Rattle.cluster.specs.declared.Server.{Server}
 use Rattle.cluster.specs.declared.Cluster.{Cluster}
 use Rattle.steps.specs.declared.Step.{Step}
@@ -11,6 +15,10 @@ use Rattle.steps.specs.declared.Telling.{Telling}
 use Rattle.fits.proofs.time_fits.Reads as time-fits-reads
 use Rattle.fits.proofs.entry_fits.Reads as entry-fits-reads
 use Rattle.fits.proofs.log_fits.Reads as log-fits-reads
+use Rattle.fits.proofs.mail_fits.Reads as mail-fits-reads
+use Rattle.fits.proofs.queue_fits.Reads as queue-fits-reads
+use Rattle.fits.proofs.report_fits.Reads as report-fits-reads
+use Rattle.fits.proofs.note_fits.Reads as note-fits-reads
 use Rattle.fits.proofs.server_fits.Reads as server-fits-reads
 use Rattle.fits.proofs.record_fits.Reads as record-fits-reads
 use Rattle.fits.proofs.step_fits.Reads as step-fits-reads
@@ -24,6 +32,18 @@ entry-fits e x y p q = one-result true x y (p .0) (q .0)
 
 pub log-fits : (g : Log) → OneResult (λ x. log-fits-reads.Learnt tt (g, tt) x (g, tt))
 log-fits g x y p q = one-result true x y (p .0) (q .0)
+
+pub mail-fits : (v : Mail) → OneResult (λ x. mail-fits-reads.Learnt tt (v, tt) x (v, tt))
+mail-fits v x y p q = one-result true x y (p .0) (q .0)
+
+pub queue-fits : (v : Queue) → OneResult (λ x. queue-fits-reads.Learnt tt (v, tt) x (v, tt))
+queue-fits v x y p q = one-result true x y (p .0) (q .0)
+
+pub report-fits : (v : Report) → OneResult (λ x. report-fits-reads.Learnt tt (v, tt) x (v, tt))
+report-fits v x y p q = one-result true x y (p .0) (q .0)
+
+pub note-fits : (v : Note) → OneResult (λ x. note-fits-reads.Learnt tt (v, tt) x (v, tt))
+note-fits v x y p q = one-result true x y (p .0) (q .0)
 
 pub server-fits : (s : Server) → OneResult (λ x. server-fits-reads.Learnt tt (s, tt) x (s, tt))
 server-fits s x y p q = one-result true x y (p .0) (q .0)

@@ -3,6 +3,7 @@ ghost use mathlib.Core.Path.{_≡_};
 ghost use mathlib.Core.Bool.{true};
 ghost use Rattle.clock.specs.Ranges.{FitsTime};
 ghost use Rattle.log.specs.Ranges.{FitsEntry, FitsLog};
+ghost use Rattle.mail.specs.Ranges.{FitsNote, FitsReport, FitsQueue, FitsMail};
 ghost use Rattle.cluster.specs.Ranges.{FitsServer, Fits};
 ghost use Rattle.steps.specs.Ranges.{FitsStep};
 ghost use Rattle.answers.specs.Ranges.{FitsTelling};
@@ -11,6 +12,10 @@ use cluster::Cluster;
 use cluster::Server;
 use log::Entry;
 use log::Log;
+use mail::Mail;
+use mail::Note;
+use mail::Queue;
+use mail::Report;
 use steps::Step;
 use steps::Telling;
 
@@ -42,12 +47,55 @@ pub fn log_fits(g: Log) -> bool
     true
 }
 
+pub fn note_fits(n: Note) -> bool
+    ensures { λ r. ⌜ r ≡ true ⌝ }
+    ensures { λ r. ⌜ FitsNote n ⌝ }
+{
+    true
+}
+
+pub fn report_fits(r: Report) -> bool
+    ensures { λ o. ⌜ o ≡ true ⌝ }
+    ensures { λ o. ⌜ FitsReport r ⌝ }
+{
+    true
+}
+
+pub fn queue_fits(q: Queue) -> bool
+    ensures { λ r. ⌜ r ≡ true ⌝ }
+    ensures { λ r. ⌜ FitsQueue q ⌝ }
+{
+    let mut i = 0;
+    while i < mail::QUEUE_LIMIT {
+        let r = q.reports[i];
+        report_fits(r);
+        i += 1;
+    }
+    true
+}
+
+pub fn mail_fits(m: Mail) -> bool
+    ensures { λ r. ⌜ r ≡ true ⌝ }
+    ensures { λ r. ⌜ FitsMail m ⌝ }
+{
+    let mut i = 0;
+    while i < mail::NOTE_SLOTS {
+        let n = m.notes[i];
+        note_fits(n);
+        i += 1;
+    }
+    let q = m.queue;
+    queue_fits(q)
+}
+
 pub fn server_fits(s: Server) -> bool
     ensures { λ r. ⌜ r ≡ true ⌝ }
     ensures { λ r. ⌜ FitsServer s ⌝ }
 {
     let g = s.log;
-    log_fits(g)
+    let m = s.mail;
+    log_fits(g);
+    mail_fits(m)
 }
 
 pub fn record_fits(c: Cluster) -> bool

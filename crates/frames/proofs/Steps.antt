@@ -10,7 +10,7 @@ use Rattle.base.specs.Numbers.{every}
 use Rattle.base.proofs.Facts.{lt-or-le}
 use Rattle.clock.specs.declared.Time.{Time}
 use Rattle.steps.specs.declared.Step.{Step}
-use Rattle.steps.specs.declared.Step.the-variants.{Start, Elect, StepDown, Hears, Pulls, RollsBack, Writes, Advances, WallClock, Restarts, LocalRead, MajorityRead, Acknowledged, ClocksAgree, WritesNothing, NewestRead}
+use Rattle.steps.specs.declared.Step.the-variants.{Start, Elect, StepDown, Hears, Pulls, RollsBack, Writes, Advances, WallClock, Restarts, LocalRead, MajorityRead, Acknowledged, ClocksAgree, WritesNothing, NewestRead, TakesReport}
 use Rattle.steps.specs.Ranges.{FitsFrame, FitsStep}
 use Rattle.hex.specs.Lines.{bytesOf, hexOf}
 use Rattle.hex.proofs.Trips.{Bytes, bytes-below}
@@ -49,6 +49,7 @@ written (Acknowledged a count position term) = (refl, refl)
 written ClocksAgree = (refl, refl)
 written (WritesNothing a) = (refl, refl)
 written (NewestRead a key position term) = (refl, refl)
+written (TakesReport a) = (refl, refl)
 
 -- what a frame of kind k makes: a step, whose frame is that frame with what the kind doesn't use put to zero
 Makes : Frame → Type 0
@@ -77,6 +78,7 @@ makes =
     ▸ (λ a b set key number term t. (ClocksAgree, (refl, refl, λ h. omega arith)))
     ▸ (λ a b set key number term t. (WritesNothing a, (refl, refl, λ h. omega arith)))
     ▸ (λ a b set key number term t. (NewestRead a key number term, (refl, refl, λ h. omega arith)))
+    ▸ (λ a b set key number term t. (TakesReport a, (refl, refl, λ h. omega arith)))
     ▸ tt)
 
 is-step : {s t : Step} → R.Step s ≡ R.Step t → s ≡ t

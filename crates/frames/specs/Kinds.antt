@@ -7,7 +7,7 @@ use lib.ListN.{getD}
 use Rattle.base.specs.Numbers.{byte, every}
 use Rattle.clock.specs.Times.{limit, zeroTime}
 use Rattle.steps.specs.declared.Frame.{Frame}
-use Rattle.steps.specs.declared.Step.the-variants.{Start, Elect, StepDown, Hears, Pulls, RollsBack, Writes, Advances, WallClock, Restarts, LocalRead, MajorityRead, Acknowledged, ClocksAgree, WritesNothing, NewestRead}
+use Rattle.steps.specs.declared.Step.the-variants.{Start, Elect, StepDown, Hears, Pulls, RollsBack, Writes, Advances, WallClock, Restarts, LocalRead, MajorityRead, Acknowledged, ClocksAgree, WritesNothing, NewestRead, TakesReport}
 use Rattle.steps.specs.Fields.{fields, frameFor}
 use Rattle.words.specs.Words.{byteAt}
 use Rattle.frames.specs.declared.ReadStep.{ReadStep}
@@ -15,9 +15,9 @@ use Rattle.frames.specs.declared.ReadStep.the-variants as R
 use Rattle.frames.specs.Layout.{stepBytes, bytesOfFrame}
 
 abbrev pub kinds : ℕ
-kinds = 16
+kinds = 17
 
--- the step that each kind makes of the fields that it uses, from kind 0 to 15
+-- the step that each kind makes of the fields that it uses, from kind 0 to 16
 abbrev pub stepsOf : Frame → List ReadStep
 stepsOf f =
     R.Step (Start (f .a))
@@ -36,6 +36,7 @@ stepsOf f =
     ∷ R.Step ClocksAgree
     ∷ R.Step (WritesNothing (f .a))
     ∷ R.Step (NewestRead (f .a) (f .key) (f .number) (f .term))
+    ∷ R.Step (TakesReport (f .a))
     ∷ []
 
 -- an unknown kind is no frame

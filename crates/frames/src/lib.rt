@@ -58,6 +58,8 @@ const WRITES_NOTHING: u8 = 14;
 
 const NEWEST_READ: u8 = 15;
 
+const TAKES_REPORT: u8 = 16;
+
 fn frame_of(b: [u8; STEP_BYTES]) -> Frame
     ensures { λ r. ⌜ r ≡ frameOf b ⌝ }
 {
@@ -92,6 +94,7 @@ fn step_of(f: Frame) -> ReadStep
         CLOCKS_AGREE => ReadStep::Step(Step::ClocksAgree),
         WRITES_NOTHING => ReadStep::Step(Step::WritesNothing(f.a)),
         NEWEST_READ => ReadStep::Step(Step::NewestRead(f.a, f.key, f.number, f.term)),
+        TAKES_REPORT => ReadStep::Step(Step::TakesReport(f.a)),
         _ => ReadStep::NoFrame,
     }
 }
@@ -177,6 +180,7 @@ fn frame_for(s: Step) -> Frame
             term,
             ZERO_TIME,
         ),
+        Step::TakesReport(a) => fields(TAKES_REPORT, a, 0, 0, 0, 0, 0, ZERO_TIME),
     }
 }
 

@@ -6,7 +6,7 @@ ghost use Rattle.frames.specs.Layout.{stepBytes};
 ghost use Rattle.frames.specs.Kinds.{kinds, mustBeZero, isTable, byteOk, isClean};
 use crate::STEP_BYTES;
 
-pub(crate) const KINDS: usize = 16;
+pub(crate) const KINDS: usize = 17;
 
 // For each kind, which bytes must be zero: bit i is byte i.
 const MUST_BE_ZERO: [u16; KINDS] = [
@@ -26,6 +26,7 @@ const MUST_BE_ZERO: [u16; KINDS] = [
     0x1ffe,
     0x1ffc,
     0x1e0c,
+    0x1ffc,
 ];
 
 // Whether byte i of a frame of this kind must be zero, by a table that keeps the rule.

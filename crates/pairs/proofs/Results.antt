@@ -5,6 +5,7 @@ use Rattle.log.specs.declared.Log.{Log}
 use Rattle.cluster.specs.declared.Server.{Server}
 use Rattle.pairs.specs.Hears.{hearsOf, staysPrimary, takesCommit}
 use Rattle.pairs.specs.Pulls.{mayJoin, pullsOf, tookOf}
+use Rattle.pairs.specs.Reports.{sentOf}
 use Rattle.pairs.specs.RollsBack.{rollsBackOf}
 use Rattle.pairs.proofs.greater_term.Reads as greater-term-reads
 use Rattle.pairs.proofs.greater.Reads as greater-reads
@@ -14,6 +15,7 @@ use Rattle.pairs.proofs.hears.hears.Reads as hears-reads
 use Rattle.pairs.proofs.pulls.took.Reads as took-reads
 use Rattle.pairs.proofs.pulls.may_join.Reads as may-join-reads
 use Rattle.pairs.proofs.pulls.pulls.Reads as pulls-reads
+use Rattle.pairs.proofs.reports.sent.Reads as sent-reads
 use Rattle.pairs.proofs.rolls_back.rolls_back.Reads as rolls-back-reads
 
 pub greater-term : (m n : ℕ) → OneResult (λ x. greater-term-reads.Learnt tt (m, (n, tt)) x (m, (n, tt)))
@@ -37,8 +39,11 @@ took s t g = one-result (tookOf s t g)
 pub may-join : (g h : Log) (n : ℕ) → OneResult (λ x. may-join-reads.Learnt tt (g, (h, (n, tt))) x (g, (h, (n, tt))))
 may-join g h n = one-result (mayJoin g h n)
 
-pub pulls : (s t : Server) → OneResult (λ x. pulls-reads.Learnt tt (s, (t, tt)) x (s, (t, tt)))
-pulls s t = one-result (pullsOf s t)
+pub sent : (s : Server) (a b : ℕ) → OneResult (λ x. sent-reads.Learnt tt (s, (a, (b, tt))) x (s, (a, (b, tt))))
+sent s a b = one-result (sentOf a b s)
 
-pub rolls-back : (s t : Server) → OneResult (λ x. rolls-back-reads.Learnt tt (s, (t, tt)) x (s, (t, tt)))
-rolls-back s t = one-result (rollsBackOf s t)
+pub pulls : (s t : Server) (a b : ℕ) → OneResult (λ x. pulls-reads.Learnt tt (s, (t, (a, (b, tt)))) x (s, (t, (a, (b, tt)))))
+pulls s t a b = one-result (pullsOf s t a b)
+
+pub rolls-back : (s t : Server) (a b : ℕ) → OneResult (λ x. rolls-back-reads.Learnt tt (s, (t, (a, (b, tt)))) x (s, (t, (a, (b, tt)))))
+rolls-back s t a b = one-result (rollsBackOf s t a b)

@@ -8,6 +8,7 @@ use Rattle.log.specs.Logs.{live}
 use Rattle.cluster.specs.declared.Head.{Head}
 use Rattle.cluster.specs.declared.Server.{Server}
 use Rattle.cluster.specs.Servers.{withTerm, withPrimary, withCommit, withTime, withHead}
+use Rattle.steps.specs.declared.Sends.the-variants.{Nothing}
 use Rattle.steps.specs.declared.Stepped.{Stepped}
 use Rattle.steps.specs.declared.Answer.the-variants.{Done}
 
@@ -30,4 +31,4 @@ heardOf s t =
     (withCommit (withPrimary (raisedTo (s .head) (t .head)) (staysPrimary s t)) (cond (takesCommit s t) (t .head .commit) (s .head .commit)))
 
 abbrev pub hearsOf : Server → Server → Stepped
-hearsOf s t = record { server = heardOf s t; answer = Done }
+hearsOf s t = record { server = heardOf s t; answer = Done; sends = Nothing }

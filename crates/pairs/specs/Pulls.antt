@@ -9,11 +9,11 @@ use Rattle.log.specs.Logs.{live, lengthOf, joined}
 use Rattle.cluster.specs.declared.Server.{Server}
 use Rattle.cluster.specs.Servers.{withCommit, withHead, withLog}
 use Rattle.steps.specs.declared.Stepped.{Stepped}
-use Rattle.steps.specs.declared.Answer.the-variants.{Reached}
 use Rattle.steps.specs.declared.Refusal.the-variants.{WrongRole, ConditionUnmet}
 use Rattle.steps.specs.Refusals.{Rules, decided}
 use Rattle.steps.specs.Answers.{refusing}
 use Rattle.pairs.specs.Hears.{raisedTo}
+use Rattle.pairs.specs.Reports.{sentOf}
 
 -- the log g of n entries is empty, or its last entry is equal to h's at that position
 abbrev pub mayJoin : Log → Log → ℕ → Bool
@@ -36,9 +36,9 @@ tookOf s t g =
 abbrev pub pulledOf : Server → Server → Server
 pulledOf s t = tookOf s t (joined (s .log) (t .log) (lengthOf (s .log)))
 
--- the answer is the new length
-abbrev pub pullDone : Server → Server → Stepped
-pullDone s t = record { server = pulledOf s t; answer = Reached (lengthOf (joined (s .log) (t .log) (lengthOf (s .log)))) }
+-- the answer is the new length; b is told
+abbrev pub pullDone : Server → Server → ℕ → ℕ → Stepped
+pullDone s t a b = sentOf a b (pulledOf s t)
 
-abbrev pub pullsOf : Server → Server → Stepped
-pullsOf s t = decided (refusing s) (pullDone s t) (pullRules s t)
+abbrev pub pullsOf : Server → Server → ℕ → ℕ → Stepped
+pullsOf s t a b = decided (refusing s) (pullDone s t a b) (pullRules s t)

@@ -7,11 +7,11 @@ use Rattle.log.specs.Entries.{lastTerm, commonBeginning, isBeginning}
 use Rattle.log.specs.Logs.{live, lengthOf, joined}
 use Rattle.cluster.specs.declared.Server.{Server}
 use Rattle.steps.specs.declared.Stepped.{Stepped}
-use Rattle.steps.specs.declared.Answer.the-variants.{Reached}
 use Rattle.steps.specs.declared.Refusal.the-variants.{WrongRole, ConditionUnmet, BelowCommitPoint}
 use Rattle.steps.specs.Refusals.{Rules, decided}
 use Rattle.steps.specs.Answers.{refusing}
 use Rattle.pairs.specs.Pulls.{tookOf}
+use Rattle.pairs.specs.Reports.{sentOf}
 
 abbrev pub common : Server → Server → ℕ
 common s t = commonBeginning (live (s .log)) (live (t .log))
@@ -31,9 +31,9 @@ rollRules s t =
 abbrev pub rolledOf : Server → Server → Server
 rolledOf s t = tookOf s t (joined (s .log) (t .log) (common s t))
 
--- the answer is the new length
-abbrev pub rollDone : Server → Server → Stepped
-rollDone s t = record { server = rolledOf s t; answer = Reached (lengthOf (joined (s .log) (t .log) (common s t))) }
+-- the answer is the new length; b is told
+abbrev pub rollDone : Server → Server → ℕ → ℕ → Stepped
+rollDone s t a b = sentOf a b (rolledOf s t)
 
-abbrev pub rollsBackOf : Server → Server → Stepped
-rollsBackOf s t = decided (refusing s) (rollDone s t) (rollRules s t)
+abbrev pub rollsBackOf : Server → Server → ℕ → ℕ → Stepped
+rollsBackOf s t a b = decided (refusing s) (rollDone s t a b) (rollRules s t)

@@ -5,6 +5,7 @@ use super::greater_term;
 use cluster::Head;
 use cluster::Server;
 use steps::Answer;
+use steps::Sends;
 use steps::Stepped;
 
 // Whether a, hearing b, takes its commit point.
@@ -54,5 +55,6 @@ pub fn hears(s: Server, t: Server) -> Stepped
             ..s
         },
         answer: Answer::Done,
+        sends: Sends::Nothing,
     }
 }

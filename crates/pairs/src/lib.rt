@@ -4,6 +4,7 @@ ghost use Prim.Native.Nat.{max};
 
 pub mod hears;
 pub mod pulls;
+pub mod reports;
 pub mod rolls_back;
 
 // The greater of two terms, and of two commit points.

@@ -3,10 +3,10 @@ ghost use mathlib.Core.Path.{_≡_};
 ghost use Rattle.pairs.specs.Pulls.{mayJoin, tookOf, pullsOf};
 use super::greater;
 use super::greater_term;
+use super::reports::sent;
 use cluster::Head;
 use cluster::Server;
 use log::Log;
-use steps::Answer;
 use steps::Refusal;
 use steps::Stepped;
 
@@ -42,8 +42,8 @@ pub fn may_join(g: Log, h: Log, n: usize) -> bool
     log::equal_at(g, h, n)
 }
 
-pub fn pulls(s: Server, t: Server) -> Stepped
-    ensures { λ r. ⌜ r ≡ pullsOf s t ⌝ }
+pub fn pulls(s: Server, t: Server, a: u8, b: u8) -> Stepped
+    ensures { λ r. ⌜ r ≡ pullsOf s t a b ⌝ }
 {
     let g = s.log;
     let h = t.log;
@@ -58,8 +58,5 @@ pub fn pulls(s: Server, t: Server) -> Stepped
         return steps::refuse(s, Refusal::ConditionUnmet);
     }
     let joined = log::join(g, h, n);
-    Stepped {
-        server: took(s, t, joined),
-        answer: Answer::Reached(log::length_of(joined)),
-    }
+    sent(took(s, t, joined), a, b)
 }

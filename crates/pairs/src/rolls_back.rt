@@ -2,13 +2,13 @@
 ghost use mathlib.Core.Path.{_≡_};
 ghost use Rattle.pairs.specs.RollsBack.{rollsBackOf};
 use super::pulls::took;
+use super::reports::sent;
 use cluster::Server;
-use steps::Answer;
 use steps::Refusal;
 use steps::Stepped;
 
-pub fn rolls_back(s: Server, t: Server) -> Stepped
-    ensures { λ r. ⌜ r ≡ rollsBackOf s t ⌝ }
+pub fn rolls_back(s: Server, t: Server, a: u8, b: u8) -> Stepped
+    ensures { λ r. ⌜ r ≡ rollsBackOf s t a b ⌝ }
 {
     let g = s.log;
     let h = t.log;
@@ -29,8 +29,5 @@ pub fn rolls_back(s: Server, t: Server) -> Stepped
         return steps::refuse(s, Refusal::BelowCommitPoint);
     }
     let joined = log::join(g, h, k);
-    Stepped {
-        server: took(s, t, joined),
-        answer: Answer::Reached(log::length_of(joined)),
-    }
+    sent(took(s, t, joined), a, b)
 }

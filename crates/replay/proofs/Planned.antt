@@ -1,21 +1,34 @@
 -- A plan that is carried out gives what the line gives, and names only servers of the record. Assumes nothing.
-use mathlib.Core.Path.{_≡_, refl, _∙_}
+use mathlib.Core.Path.{_≡_, refl, ap, sym, _∙_}
+use mathlib.Core.List.{[], _∷_}
 use mathlib.Core.Bool.{Bool, true, false, cond, not, _||_}
 use Prim.Native.Nat.{ℕ, _<_}
 use lib.Dec.{eqb, ltb}
 use borrow.Author.Tests.{ltb-true}
 use Rattle.cluster.specs.declared.Cluster.{Cluster}
-use Rattle.cluster.specs.Servers.{serverAt, serverCount}
+use Rattle.cluster.specs.declared.Server.{Server as ServerOf}
+use Rattle.cluster.specs.Servers.{serverAt, serverCount, withServer}
 use Rattle.cluster.specs.WellFormed.{wellFormed}
 use Rattle.steps.specs.declared.Refusal.the-variants.{IllFormed, OutOfRange}
 use Rattle.steps.specs.declared.Step.{Step}
 use Rattle.steps.specs.declared.Step.the-variants as S
-use Rattle.steps.specs.Answers.{refusingAll}
+use Rattle.steps.specs.declared.Outcome.{Outcome}
+use Rattle.steps.specs.declared.Sends.the-variants.{Nothing}
+use Rattle.steps.specs.declared.Stepped.{Stepped}
+use Rattle.steps.specs.Refusals.{Rules, decided}
+use Rattle.steps.specs.Answers.{refusing, refusingAll}
+use Rattle.singles.specs.StepsDown.{downRules}
+use Rattle.singles.specs.WallClock.{clockRules}
+use Rattle.singles.specs.Appends.{appendRules}
+use Rattle.singles.specs.Writes.{writeRules}
+use Rattle.singles.specs.LocalRead.{localRules}
+use Rattle.singles.specs.MajorityRead.{majorityRules}
+use Rattle.singles.specs.NewestRead.{newestRules}
 use Rattle.frames.specs.declared.ReadStep.{ReadStep}
 use Rattle.frames.specs.declared.ReadStep.the-variants as R
-use Rattle.rules.specs.Rules.{isStart, coreOf, stepOf, putBack}
+use Rattle.rules.specs.Rules.{delivered, isStart, coreOf, stepOf, putBack}
 use Rattle.rules.specs.One.{oneOf, singleOf, pairOf}
-use Rattle.rules.proofs.Parts.{core-down, core-hears, core-pulls, core-rolls-back, core-writes, core-clock, core-restarts, core-local, core-majority, core-nothing, core-newest}
+use Rattle.rules.proofs.Parts.{core-down, core-hears, core-writes, core-clock, core-restarts, core-local, core-majority, core-nothing, core-newest}
 use Rattle.replay.specs.declared.Plan.{Plan}
 use Rattle.replay.specs.declared.Plan.the-variants.{Refuse, Server, Record}
 use Rattle.replay.specs.Texts.{respond}
@@ -23,44 +36,59 @@ use Rattle.replay.specs.Plans.{planAlone, planApart, placeOf, planOf, ca
 
 -- ---- what is carried out
 
-alone-does : (c : Cluster) (a : ℕ) (s : Step) → carriedOut c (planAlone (serverCount c) a s) ≡ singleOf c a s
+-- what is decided between a refusal and what sends nothing sends nothing
+decided-sends : (s : ServerOf) (d : Stepped) (rs : Rules) → d .sends ≡ Nothing → decided (refusing s) d rs .sends ≡ Nothing
+decided-sends s d [] e = e
+decided-sends s d (r ∷ rs) e = go (r .0) (decided-sends s d rs e)
+  where
+    go : (b : Bool) → decided (refusing s) d rs .sends ≡ Nothing → cond b (decided (refusing s) d rs) (refusing s (r .1)) .sends ≡ Nothing
+    go true x = x
+    go false x = refl
+
+-- a step that sends nothing leaves the others as they are
+put-back-is : (c : Cluster) (a : ℕ) (o : Stepped) → o .sends ≡ Nothing → _≡_ {A = Outcome} (record { cluster = withServer c a (o .server); answer = o .answer }) (putBack c a o)
+unfolding delivered
+put-back-is c a o e i = record { cluster = sym (ap (delivered (withServer c a (o .server))) e) i; answer = o .answer }
+
+alone-does : (c : Cluster) (a : ℕ) (s : Step) → oneOf (serverAt c a) (serverAt c a) s .sends ≡ Nothing → carriedOut c (planAlone (serverCount c) a s) ≡ singleOf c a s
 unfolding carriedOut planAlone singleOf
-alone-does c a s = go (ltb a (serverCount c))
+alone-does c a s e = go (ltb a (serverCount c))
   where
     go : (t : Bool) → carriedOut c (cond t (Server a a s) (Refuse OutOfRange)) ≡ cond t (putBack c a (oneOf (serverAt c a) (serverAt c a) s)) (refusingAll c OutOfRange)
-    go true = refl
+    go true = put-back-is c a (oneOf (serverAt c a) (serverAt c a) s) e
     go false = refl
 
-apart-does : (c : Cluster) (a b : ℕ) (s : Step) → carriedOut c (planApart (serverCount c) a b s) ≡ pairOf c a b s
+apart-does : (c : Cluster) (a b : ℕ) (s : Step) → oneOf (serverAt c a) (serverAt c b) s .sends ≡ Nothing → carriedOut c (planApart (serverCount c) a b s) ≡ pairOf c a b s
 unfolding carriedOut planApart pairOf
-apart-does c a b s = go (ltb a (serverCount c)) (ltb b (serverCount c)) (eqb a b)
+apart-does c a b s e = go (ltb a (serverCount c)) (ltb b (serverCount c)) (eqb a b)
   where
     go : (t u v : Bool)
         → carriedOut c (cond t (cond u (cond v (Refuse OutOfRange) (Server a b s)) (Refuse OutOfRange)) (Refuse OutOfRange))
         ≡ cond t (cond u (cond (not v) (putBack c a (oneOf (serverAt c a) (serverAt c b) s)) (refusingAll c OutOfRange)) (refusingAll c OutOfRange)) (refusingAll c OutOfRange)
     go true true true = refl
-    go true true false = refl
+    go true true false = put-back-is c a (oneOf (serverAt c a) (serverAt c b) s) e
     go true false v = refl
     go false u v = refl
 
 place-does : (c : Cluster) (s : Step) → carriedOut c (placeOf (serverCount c) s) ≡ coreOf c s
-unfolding carriedOut placeOf
+unfolding carriedOut placeOf oneOf
 place-does c (S.Start n) = refl
 place-does c (S.Elect a m) = refl
-place-does c (S.StepDown a) = alone-does c a (S.StepDown a) ∙ core-down c a
-place-does c (S.Hears a b) = apart-does c a b (S.Hears a b) ∙ core-hears c a b
-place-does c (S.Pulls a b) = apart-does c a b (S.Pulls a b) ∙ core-pulls c a b
-place-does c (S.RollsBack a b) = apart-does c a b (S.RollsBack a b) ∙ core-rolls-back c a b
-place-does c (S.Writes a key value) = alone-does c a (S.Writes a key value) ∙ core-writes c a key value
+place-does c (S.StepDown a) = alone-does c a (S.StepDown a) (decided-sends _ _ (downRules (serverAt c a .head)) refl) ∙ core-down c a
+place-does c (S.Hears a b) = apart-does c a b (S.Hears a b) refl ∙ core-hears c a b
+place-does c (S.Pulls a b) = refl
+place-does c (S.RollsBack a b) = refl
+place-does c (S.Writes a key value) = alone-does c a (S.Writes a key value) (decided-sends _ _ (writeRules (serverAt c a) key value) refl) ∙ core-writes c a key value
 place-does c (S.Advances a) = refl
-place-does c (S.WallClock a) = alone-does c a (S.WallClock a) ∙ core-clock c a
-place-does c (S.Restarts a) = alone-does c a (S.Restarts a) ∙ core-restarts c a
-place-does c (S.LocalRead a key asked) = alone-does c a (S.LocalRead a key asked) ∙ core-local c a key asked
-place-does c (S.MajorityRead a key asked) = alone-does c a (S.MajorityRead a key asked) ∙ core-majority c a key asked
+place-does c (S.WallClock a) = alone-does c a (S.WallClock a) (decided-sends _ _ (clockRules (serverAt c a .head)) refl) ∙ core-clock c a
+place-does c (S.Restarts a) = alone-does c a (S.Restarts a) refl ∙ core-restarts c a
+place-does c (S.LocalRead a key asked) = alone-does c a (S.LocalRead a key asked) (decided-sends _ _ (localRules (serverAt c a) key asked) refl) ∙ core-local c a key asked
+place-does c (S.MajorityRead a key asked) = alone-does c a (S.MajorityRead a key asked) (decided-sends _ _ (majorityRules (serverAt c a) key asked) refl) ∙ core-majority c a key asked
 place-does c (S.Acknowledged a k n term) = refl
 place-does c S.ClocksAgree = refl
-place-does c (S.WritesNothing a) = alone-does c a (S.WritesNothing a) ∙ core-nothing c a
-place-does c (S.NewestRead a key n term) = alone-does c a (S.NewestRead a key n term) ∙ core-newest c a key n term
+place-does c (S.WritesNothing a) = alone-does c a (S.WritesNothing a) (decided-sends _ _ (appendRules (serverAt c a)) refl) ∙ core-nothing c a
+place-does c (S.NewestRead a key n term) = alone-does c a (S.NewestRead a key n term) (decided-sends _ _ (newestRules (serverAt c a) key n term) refl) ∙ core-newest c a key n term
+place-does c (S.TakesReport a) = refl
 
 pub plan-does : (c : Cluster) (r : ReadStep) → carriedOut c (planOf (serverCount c) (wellFormed c) r) ≡ respond c r
 unfolding planOf respond stepOf carriedOut
@@ -107,8 +135,8 @@ place-names size (S.Start n) = tt
 place-names size (S.Elect a m) = tt
 place-names size (S.StepDown a) = alone-names size a (S.StepDown a)
 place-names size (S.Hears a b) = apart-names size a b (S.Hears a b)
-place-names size (S.Pulls a b) = apart-names size a b (S.Pulls a b)
-place-names size (S.RollsBack a b) = apart-names size a b (S.RollsBack a b)
+place-names size (S.Pulls a b) = tt
+place-names size (S.RollsBack a b) = tt
 place-names size (S.Writes a key value) = alone-names size a (S.Writes a key value)
 place-names size (S.Advances a) = tt
 place-names size (S.WallClock a) = alone-names size a (S.WallClock a)
@@ -119,6 +147,7 @@ place-names size (S.Acknowledged a k n term) = tt
 place-names size S.ClocksAgree = tt
 place-names size (S.WritesNothing a) = alone-names size a (S.WritesNothing a)
 place-names size (S.NewestRead a key n term) = alone-names size a (S.NewestRead a key n term)
+place-names size (S.TakesReport a) = tt
 
 plan-names : (size : ℕ) (formed : Bool) (r : ReadStep) → Names size (planOf size formed r)
 unfolding planOf

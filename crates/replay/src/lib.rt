@@ -206,8 +206,8 @@ fn place(size: usize, s: Step) -> Plan
         Step::Elect(_, _) => Plan::Record(s),
         Step::StepDown(a) => plan_alone(size, a as usize, s),
         Step::Hears(a, b) => plan_apart(size, a as usize, b as usize, s),
-        Step::Pulls(a, b) => plan_apart(size, a as usize, b as usize, s),
-        Step::RollsBack(a, b) => plan_apart(size, a as usize, b as usize, s),
+        Step::Pulls(_, _) => Plan::Record(s),
+        Step::RollsBack(_, _) => Plan::Record(s),
         Step::Writes(a, _, _) => plan_alone(size, a as usize, s),
         Step::Advances(_) => Plan::Record(s),
         Step::WallClock(a) => plan_alone(size, a as usize, s),
@@ -218,6 +218,7 @@ fn place(size: usize, s: Step) -> Plan
         Step::ClocksAgree => Plan::Record(s),
         Step::WritesNothing(a) => plan_alone(size, a as usize, s),
         Step::NewestRead(a, _, _, _) => plan_alone(size, a as usize, s),
+        Step::TakesReport(_) => Plan::Record(s),
     }
 }
 

@@ -1,11 +1,11 @@
 -- Every step that fits keeps what the types give and well-formedness, from every well-formed record, reached or not. Assumes nothing.
-use mathlib.Core.Path.{_≡_, refl, ap}
-use mathlib.Core.Bool.{Bool, true, false, not, _||_}
-use mathlib.Core.Logic.{inl, inr, ⊎-elim}
-use Prim.Native.Nat.{ℕ, _<_, _≤_}
+use mathlib.Core.Path.{_≡_, refl, ap, sym}
+use mathlib.Core.Bool.{Bool, true, false, cond, not, _||_}
+use mathlib.Core.Logic.{_≢_, inl, inr, ⊎-elim}
+use Prim.Native.Nat.{ℕ, _-_, _<_, _≤_}
 use native.Mathlib.Omega.{arith}
 use lib.Dec.{eqb, ltb}
-use borrow.Author.Tests.{ltb-true, leb-true, lt-ltb, le-ltb, not-true}
+use borrow.Author.Tests.{eqb-false, ltb-true, leb-true, lt-ltb, le-ltb, not-true}
 use Rattle.base.proofs.Bools.{and-left, or-cases, not-both}
 use Rattle.base.proofs.Every.{every-at}
 use Rattle.base.proofs.Greatest.{greatest-above, greatest-below}
@@ -13,6 +13,11 @@ use Rattle.base.proofs.Highest.{highest-le}
 use Rattle.clock.specs.Times.{limit}
 use Rattle.log.specs.Logs.{lengthOf}
 use Rattle.log.specs.Order.{noKey}
+use Rattle.mail.specs.declared.Report.{Report}
+use Rattle.mail.specs.Ranges.{FitsReport}
+use Rattle.mail.proofs.Good.{UsedReport}
+use Rattle.mail.proofs.Kept.{received-good, oldest-used}
+use Rattle.mail.proofs.Ranges.{fits-received, fits-report-at}
 use Rattle.cluster.specs.declared.Server.{Server}
 use Rattle.cluster.specs.declared.Cluster.{Cluster}
 use Rattle.cluster.specs.Ranges.{Fits}
@@ -23,8 +28,9 @@ use Rattle.cluster.proofs.Fresh.{good-fresh, fits-fresh}
 use Rattle.cluster.proofs.Good.{Good, good, well-formed}
 use Rattle.cluster.proofs.Masks.{within-member}
 use Rattle.steps.specs.declared.Outcome.{Outcome}
+use Rattle.steps.specs.declared.Sends.the-variants.{Nothing, To}
 use Rattle.steps.specs.declared.Step.{Step}
-use Rattle.steps.specs.declared.Step.the-variants.{Start, Elect, StepDown, Hears, Pulls, RollsBack, Writes, Advances, WallClock, Restarts, LocalRead, MajorityRead, Acknowledged, ClocksAgree, WritesNothing, NewestRead}
+use Rattle.steps.specs.declared.Step.the-variants.{Start, Elect, StepDown, Hears, Pulls, RollsBack, Writes, Advances, WallClock, Restarts, LocalRead, MajorityRead, Acknowledged, ClocksAgree, WritesNothing, NewestRead, TakesReport}
 use Rattle.base.specs.Numbers.{byte}
 use Rattle.steps.specs.Ranges.{FitsStep}
 use Rattle.steps.specs.Reasons.{Clear}
@@ -32,10 +38,12 @@ use Rattle.wholes.specs.Elects.{mayVote, allMayVote, electRules, newTerm}
 use Rattle.counts.specs.Advances.{passes, highestPassing, advanceDone}
 use Rattle.wholes.specs.Starts.{startRules}
 use Rattle.wholes.specs.ClocksAgree.{greatestClock}
-use Rattle.rules.specs.Rules.{rowOf, rulesOf, doneOf, isStart, stepOf}
+use Rattle.pairs.specs.Reports.{reportOf, sentOf}
+use Rattle.singles.specs.TakesReport.{takeRules, oldestOf, keepsIt, forwards, takeDone}
+use Rattle.rules.specs.Rules.{delivered, putBack, rowOf, rulesOf, doneOf, isStart, stepOf}
 use Rattle.rules.proofs.Outcomes.{step-done, StepDone, step-cases}
-use Rattle.rules.proofs.Others.{voted-inside, voted-outside, clocked-counted, clocked-past}
-use Rattle.rules.proofs.Servers.{ServerSound, down-sound, wall-sound, restarted-sound, committed-sound, voted-sound, heard-sound, pulled-sound, rolled-sound, appended-sound}
+use Rattle.rules.proofs.Others.{or-neither, voted-inside, voted-outside, clocked-counted, clocked-past}
+use Rattle.rules.proofs.Servers.{ServerSound, mail-set, sourced-sound, report-used, report-fits, taken-sound, pulled-some, rolled-some, down-sound, wall-sound, restarted-sound, committed-sound, voted-sound, heard-sound, pulled-sound, rolled-sound, appended-sound}
 use Rattle.rules.proofs.Records.{Sound, counted-sound, replaced-sound, changed-sound}
 
 -- ---- what is done keeps the record
@@ -51,10 +59,10 @@ module _ {c : Cluster} (h : Sound c) where
   counted : (a : ℕ) → ltb a (serverCount c) ≡ true → a < c .count
   counted a e = omega (arith, ltb-true a (serverCount c) e)
 
-  at : (a : ℕ) → ltb a (serverCount c) ≡ true → ServerSound (serverAt c a)
+  at : (a : ℕ) → ltb a (serverCount c) ≡ true → ServerSound (c .count) a (serverAt c a)
   at a e = counted-sound h a (counted a e)
 
-  put : (a : ℕ) (s : Server) → ltb a (serverCount c) ≡ true → (ServerSound (serverAt c a) → ServerSound s) → Sound (withServer c a s)
+  put : (a : ℕ) (s : Server) → ltb a (serverCount c) ≡ true → (ServerSound (c .count) a (serverAt c a) → ServerSound (c .count) a s) → Sound (withServer c a s)
   put a s e new = replaced-sound h a s (counted a e) (new (at a e))
 
   -- who votes has a term not above a's, and none votes from past the count
@@ -69,7 +77,7 @@ module _ {c : Cluster} (h : Sound c) where
           let v = voter-may c (serverAt c a) m (k .1 .1 .1 .1 .0) i (omega (arith, h .good .at-most-seven)) e in
           omega (arith, leb-true (serverAt c i .head .term) (serverAt c a .head .term) (and-left _ _ v))
 
-      new : (i : ℕ) → i < c .count → (b : Bool) → member m i ≡ b → ServerSound (votedOf a m (newTerm c a) i (serverAt c i))
+      new : (i : ℕ) → i < c .count → (b : Bool) → member m i ≡ b → ServerSound (c .count) i (votedOf a m (newTerm c a) i (serverAt c i))
       new i l true e =
           rw (voted-inside a m (newTerm c a) i (serverAt c i) e)
           (voted-sound (counted-sound h i l) (newTerm c a) (eqb i a) (up i l e) (omega (arith, ltb-true (serverAt c a .head .term) limit (k .1 .1 .1 .1 .1 .0))))
@@ -101,11 +109,53 @@ module _ {c : Cluster} (h : Sound c) where
   -- a position that passes is one of the log
   advanced-sound : (a : ℕ) → ltb a (serverCount c) ≡ true → Sound (advanceDone c a .cluster)
   unfolding highestPassing
-  advanced-sound a e = put a _ e (λ x. committed-sound x _ (highest-le (passes c (serverAt c a)) (lengthOf (serverAt c a .log))))
+  advanced-sound a e = put a _ e (λ x. committed-sound x _ (highest-le (passes (serverCount c) (serverAt c a) a) (lengthOf (serverAt c a .log))))
+
+-- a used report that a counted server is sent
+delivered-sound : {c : Cluster} → Sound c → (b : ℕ) (r : Report) → b < c .count → UsedReport (c .count) r → FitsReport r → Sound (delivered c (To b r))
+unfolding delivered
+delivered-sound h b r l used fits =
+    replaced-sound h b _ l (let x = counted-sound h b l in mail-set x (fits-received (x .fits .mail) fits) (received-good (x .mailed) used))
+
+-- servers that are not the same
+apart : (a b : ℕ) → not (eqb a b) ≡ true → b ≢ a
+apart a b e q = eqb-false a b (not-true (eqb a b) e) (sym q)
+
+-- a server that took over entries, its source and its report
+sent-sound : {c : Cluster} (h : Sound c) (a b : ℕ) (s : Server) → ltb a (serverCount c) ≡ true → ltb b (serverCount c) ≡ true → not (eqb a b) ≡ true
+    → (ServerSound (c .count) a (serverAt c a) → ServerSound (c .count) b (serverAt c b) → ServerSound (c .count) a s × (1 ≤ lengthOf (s .log)))
+    → Sound (delivered (withServer c a (sentOf a b s .server)) (To b (reportOf a s)))
+sent-sound h a b s la lb ne new =
+    let few = h .good .at-most-seven in
+    let l = counted h a la in
+    let x = new (at h a la) (at h b lb) in
+    delivered-sound (replaced-sound h a _ l (sourced-sound (x .0) b (counted h b lb) (apart a b ne) few)) b (reportOf a s) (counted h b lb)
+    (report-used (x .0) l (x .1)) (report-fits (x .0) (omega (arith, l, few)))
+
+-- the oldest report, taken and sent on to the source where there is one
+took-report : {c : Cluster} → Sound c → (a : ℕ) → a < c .count → Clear (takeRules (serverAt c a)) → Sound (putBack c a (takeDone (serverAt c a)) .cluster)
+unfolding forwards delivered
+took-report {c} h a l k = go (keepsIt s) refl
+  where
+    s : Server
+    s = serverAt c a
+
+    x : ServerSound (c .count) a s
+    x = counted-sound h a l
+
+    d : Sound (withServer c a (takeDone s .server))
+    d = replaced-sound h a _ l (taken-sound x k)
+
+    go : (b : Bool) → keepsIt s ≡ b → Sound (delivered (withServer c a (takeDone s .server)) (cond b Nothing (To (s .mail .source - 1) (oldestOf s))))
+    go true e = d
+    go false e =
+        let some = leb-true 1 (s .mail .queue .len) (k .0) in
+        let source : s .mail .source - 1 < c .count = omega (arith, x .mailed .source .within, eqb-false (s .mail .source) 0 (or-neither (s .head .primary) _ e .1)) in
+        delivered-sound d _ (oldestOf s) source (oldest-used (x .mailed .queue) some) (fits-report-at (x .fits .mail .queue) 0)
 
 -- a start needs nothing of the record before
 done-sound : (c : Cluster) (s : Step) → (isStart s ≡ false → Sound c) → FitsStep s → Clear (rulesOf c s) → Sound (doneOf c s .cluster)
-unfolding rowOf
+unfolding rowOf delivered
 done-sound c (Start n) h f k =
     let two = leb-true _ n (k .0) in
     let seven = leb-true n _ (k .1 .0) in
@@ -113,8 +163,10 @@ done-sound c (Start n) h f k =
 done-sound c (Elect a m) h f k = elected-sound (h refl) a m (f .set) k
 done-sound c (StepDown a) h f k = put (h refl) a _ (k .0) down-sound
 done-sound c (Hears a b) h f k = put (h refl) a _ (k .0) (λ x. heard-sound x (at (h refl) b (k .1 .0)))
-done-sound c (Pulls a b) h f k = put (h refl) a _ (k .0) (λ x. pulled-sound x (at (h refl) b (k .1 .0)) (k .1 .1 .1))
-done-sound c (RollsBack a b) h f k = put (h refl) a _ (k .0) (λ x. rolled-sound x (at (h refl) b (k .1 .0)) (k .1 .1 .1))
+done-sound c (Pulls a b) h f k =
+    sent-sound (h refl) a b _ (k .0) (k .1 .0) (k .1 .1 .0) (λ x y. (pulled-sound x y (k .1 .1 .1), pulled-some x y (k .1 .1 .1)))
+done-sound c (RollsBack a b) h f k =
+    sent-sound (h refl) a b _ (k .0) (k .1 .0) (k .1 .1 .0) (λ x y. (rolled-sound x y (k .1 .1 .1), rolled-some x y (k .1 .1 .1)))
 done-sound c (Writes a key value) h f k = put (h refl) a _ (k .0) (λ x. appended-sound x key value (f .key) (f .number) (inl (leb-true _ _ (k .1 .0), leb-true _ _ (k .1 .1 .0))) (k .1 .1 .1))
 done-sound c (Advances a) h f k = advanced-sound (h refl) a (k .0)
 done-sound c (WallClock a) h f k = put (h refl) a _ (k .0) (λ x. wall-sound x _ (omega arith) (omega (arith, ltb-true (serverAt c a .head .wall) limit (k .1 .0))))
@@ -125,6 +177,7 @@ done-sound c (Acknowledged a n position term) h f k = h refl
 done-sound c ClocksAgree h f k = agreed-sound (h refl)
 done-sound c (WritesNothing a) h f k = put (h refl) a _ (k .0) (λ x. appended-sound x noKey 0 (omega arith) (omega arith) (inr (refl, refl)) (k .1))
 done-sound c (NewestRead a key n term) h f k = put (h refl) a _ (k .0) (λ x. x)
+done-sound c (TakesReport a) h f k = took-report (h refl) a (counted (h refl) a (k .0)) (k .1)
 
 -- ---- every step keeps it
 

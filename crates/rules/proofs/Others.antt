@@ -1,37 +1,42 @@
 -- Only the servers that a step names change, and in what they change; the server count stays. Assumes nothing.
-use mathlib.Core.Path.{_≡_, refl, ap}
-use mathlib.Core.Bool.{Bool, true, false}
-use mathlib.Core.Logic.{⊎-elim}
-use Prim.Native.Nat.{ℕ, _≤_}
+use mathlib.Core.Path.{_≡_, refl, ap, sym, _∙_, subst}
+use mathlib.Core.Bool.{Bool, true, false, cond, _||_}
+use mathlib.Core.List.{List}
+use mathlib.Core.Logic.{_≢_, ⊎-elim, by-cases}
+use Prim.Native.Nat.{ℕ, suc, _-_, _<_, _≤_}
+use native.Mathlib.Decide.{ℕ-discrete}
 use native.Mathlib.Omega.{arith}
 use lib.Dec.{eqb, ltb}
-use lib.ListN.{length, List·getD-eq-default}
-use lib.Seq.{set-getD}
+use lib.ListN.{length, getD, List·getD-eq-default}
+use lib.Seq.{set-getD, set-out}
 use borrow.Author.Tests.{eqb-false}
 use Rattle.base.specs.Lists.{each}
 use Rattle.base.proofs.Bools.{not-both}
 use Rattle.base.proofs.Each.{length-eachFrom}
 use Rattle.base.proofs.Facts.{lt-or-le}
+use Rattle.mail.specs.declared.Report.{Report}
+use Rattle.mail.specs.Mails.{withNotes, withQueue, emptied}
 use Rattle.cluster.specs.declared.Server.{Server}
 use Rattle.cluster.specs.declared.Cluster.{Cluster}
-use Rattle.cluster.specs.Servers.{withTerm, withPrimary, withWall, withHead, pastServer, serverAt, withServer, votedOf, clockedOf}
+use Rattle.cluster.specs.Servers.{withTerm, withPrimary, withWall, withHead, withMail, pastServer, serverAt, withServer, votedOf, clockedOf}
 use Rattle.cluster.specs.Sets.{member}
-use Rattle.cluster.proofs.Changed.{replaced-others, changed-at}
+use Rattle.cluster.proofs.Changed.{replaced-here, replaced-others, changed-at}
 use Rattle.steps.specs.declared.Step.{Step}
-use Rattle.steps.specs.declared.Step.the-variants.{Start, Elect, StepDown, Hears, Pulls, RollsBack, Writes, Advances, WallClock, Restarts, LocalRead, MajorityRead, Acknowledged, ClocksAgree, WritesNothing, NewestRead}
+use Rattle.steps.specs.declared.Step.the-variants.{Start, Elect, StepDown, Hears, Pulls, RollsBack, Writes, Advances, WallClock, Restarts, LocalRead, MajorityRead, Acknowledged, ClocksAgree, WritesNothing, NewestRead, TakesReport}
+use Rattle.steps.specs.declared.Sends.{Sends}
+use Rattle.steps.specs.declared.Sends.the-variants.{Nothing, To}
 use Rattle.wholes.specs.Elects.{newTerm}
 use Rattle.wholes.specs.ClocksAgree.{greatestClock}
-use Rattle.rules.specs.Rules.{rowOf, doneOf, isStart, stepOf}
+use Rattle.singles.specs.TakesReport.{oldestOf, keepsIt, forwards}
+use Rattle.rules.specs.Rules.{delivered, rowOf, doneOf, isStart, stepOf}
 use Rattle.rules.proofs.Outcomes.{step-cases}
 use Rattle.rules.specs.Statements.{touches}
 
--- ---- which servers a step may change
-
 -- ---- servers before and after
 
--- a server in another office: another term and role
+-- a server in another office: another term and role; a winner has no notes and no reports
 abbrev pub officeOf : Server → ℕ → Bool → Server
-officeOf s t p = withHead s (withPrimary (withTerm (s .head) t) p)
+officeOf s t p = withMail (withHead s (withPrimary (withTerm (s .head) t) p)) (cond p (emptied (s .mail)) (s .mail))
 
 -- a server with another wall clock
 abbrev pub wallOf : Server → ℕ → Server
@@ -59,24 +64,39 @@ module _ (n w i : ℕ) (s : Server) where
 pub put-same : (c : Cluster) (a : ℕ) → withServer c a (serverAt c a) ≡ c
 put-same c a = λ i. record { count = c .count; servers = set-getD (c .servers) a pastServer i }
 
+-- what holds of the server that is put there and of those that were there holds of all; where there is no such place nothing changes
+pub put-either : (P : Server → Type 0) (c : Cluster) (a : ℕ) (s : Server) (i : ℕ) → (i ≡ a → P s) → P (serverAt c i) → P (serverAt (withServer c a s) i)
+put-either P c a s i new old = by-cases (ℕ-discrete i a) (λ e. ⊎-elim (inside e) outside (lt-or-le a (length (c .servers)))) other
+  where
+    inside : i ≡ a → a < length (c .servers) → P (serverAt (withServer c a s) i)
+    inside e h = subst (λ (k : ℕ). P (serverAt (withServer c a s) k)) (sym e) (subst P (sym (replaced-here c a s h)) (new e))
+
+    outside : length (c .servers) ≤ a → P (serverAt (withServer c a s) i)
+    outside h = subst (λ (ss : List Server). P (getD ss i pastServer)) (sym (set-out (c .servers) a s h)) old
+
+    other : i ≢ a → P (serverAt (withServer c a s) i)
+    other ne = subst P (sym (replaced-others c a s i ne)) old
+
 -- every server changed by its number
 abbrev pub changedBy : (ℕ → Server → Server) → Cluster → Cluster
 changedBy f c = record { count = c .count; servers = each f (c .servers) }
 
+-- what holds of what the change makes of a server, and of the server, holds afterwards: past the servers nothing changes
+pub changed-either : (P : Server → Type 0) (f : ℕ → Server → Server) (c : Cluster) (i : ℕ) → P (f i (serverAt c i)) → P (serverAt c i)
+    → P (serverAt (changedBy f c) i)
+changed-either P f c i new old = ⊎-elim (λ l. subst P (sym (changed-at f c i l)) new) (λ l. subst P (sym (past l)) old) (lt-or-le i (length (c .servers)))
+  where
+    past : length (c .servers) ≤ i → serverAt (changedBy f c) i ≡ serverAt c i
+    past l =
+        List·getD-eq-default (each f (c .servers)) pastServer (omega (arith, length-eachFrom f 0 (c .servers)))
+        ∙ sym (List·getD-eq-default (c .servers) pastServer l)
+
 -- a relation that holds of every server and itself
 module _ (R : Server → Server → Type 0) (itself : (s : Server) → R s s) where
-  -- holds where every server is changed, past the servers too
+  -- holds where every server is changed
   changed-by : (f : ℕ → Server → Server) (c : Cluster) (i : ℕ) → R (serverAt c i) (f i (serverAt c i))
       → R (serverAt c i) (serverAt (changedBy f c) i)
-  changed-by f c i h = ⊎-elim (λ l. rw (changed-at f c i l) h) past (lt-or-le i (length (c .servers)))
-    where
-      past : length (c .servers) ≤ i → R (serverAt c i) (serverAt (changedBy f c) i)
-      past l =
-          rw (
-            List·getD-eq-default (c .servers) pastServer {n = i} l,
-            List·getD-eq-default (each f (c .servers)) pastServer {n = i} (omega (arith, length-eachFrom f 0 (c .servers))),
-          )
-          (itself pastServer)
+  changed-by f c i h = changed-either (R (serverAt c i)) f c i h (itself (serverAt c i))
 
   -- and over a step, if it does over what is done
   stepped-by : (c : Cluster) (s : Step) (i : ℕ) → R (serverAt c i) (serverAt (doneOf c s .cluster) i) → R (serverAt c i) (serverAt (stepOf c s .cluster) i)
@@ -84,18 +104,53 @@ module _ (R : Server → Server → Type 0) (itself : (s : Server) → R s s) wh
 
 -- ---- the others are unchanged
 
+-- a delivery changes only the server that it goes to
+pub delivered-others : (c : Cluster) (b : ℕ) (r : Report) (i : ℕ) → i ≢ b → serverAt (delivered c (To b r)) i ≡ serverAt c i
+unfolding delivered
+delivered-others c b r i ne = replaced-others c b _ i ne
+
+pub delivered-count : (c : Cluster) (x : Sends) → delivered c x .count ≡ c .count
+unfolding delivered
+delivered-count c Nothing = refl
+delivered-count c (To b r) = refl
+
 -- t is what s was
 abbrev Same : Server → Server → Type 0
 Same s t = t ≡ s
 
+pub or-neither : (x y : Bool) → (x || y) ≡ false → (x ≡ false) × (y ≡ false)
+or-neither true y e = not-both true refl e
+or-neither false y e = (refl, e)
+
+-- neither the server that takes a step nor the one that it sends a report to
+sent-others : (c : Cluster) (a b : ℕ) (s : Server) (r : Report) (i : ℕ) → (eqb i a || eqb i b) ≡ false → serverAt (delivered (withServer c a s) (To b r)) i ≡ serverAt c i
+sent-others c a b s r i e =
+    let n = or-neither (eqb i a) (eqb i b) e in
+    delivered-others (withServer c a s) b r i (eqb-false i b (n .1)) ∙ replaced-others c a s i (eqb-false i a (n .0))
+
+forwarded-others : (c : Cluster) (a : ℕ) (s : Server) (i : ℕ) → (eqb i a || eqb (suc i) (serverAt c a .mail .source)) ≡ false
+    → serverAt (delivered (withServer c a s) (forwards (serverAt c a))) i ≡ serverAt c i
+unfolding forwards delivered
+forwarded-others c a s i e = go (keepsIt (serverAt c a)) refl
+  where
+    n : (eqb i a ≡ false) × (eqb (suc i) (serverAt c a .mail .source) ≡ false)
+    n = or-neither (eqb i a) (eqb (suc i) (serverAt c a .mail .source)) e
+
+    go : (b : Bool) → keepsIt (serverAt c a) ≡ b
+        → serverAt (delivered (withServer c a s) (cond b Nothing (To (serverAt c a .mail .source - 1) (oldestOf (serverAt c a))))) i ≡ serverAt c i
+    go true k = replaced-others c a s i (eqb-false i a (n .0))
+    go false k =
+        replaced-others (withServer c a s) _ _ i (λ q. eqb-false (suc i) (serverAt c a .mail .source) (n .1) (omega (arith, eqb-false (serverAt c a .mail .source) 0 (or-neither (serverAt c a .head .primary) _ k .1))))
+        ∙ replaced-others c a s i (eqb-false i a (n .0))
+
 done-others : (c : Cluster) (s : Step) (i : ℕ) → touches c s i ≡ false → serverAt (doneOf c s .cluster) i ≡ serverAt c i
-unfolding rowOf
+unfolding rowOf delivered
 done-others c (Start n) i e = not-both true refl e
 done-others c (Elect a m) i e = changed-by Same (λ s. refl) (votedOf a m (newTerm c a)) c i (voted-outside a m (newTerm c a) i (serverAt c i) e)
 done-others c (StepDown a) i e = replaced-others c a _ i (eqb-false i a e)
 done-others c (Hears a b) i e = replaced-others c a _ i (eqb-false i a e)
-done-others c (Pulls a b) i e = replaced-others c a _ i (eqb-false i a e)
-done-others c (RollsBack a b) i e = replaced-others c a _ i (eqb-false i a e)
+done-others c (Pulls a b) i e = sent-others c a b _ _ i e
+done-others c (RollsBack a b) i e = sent-others c a b _ _ i e
 done-others c (Writes a key value) i e = replaced-others c a _ i (eqb-false i a e)
 done-others c (Advances a) i e = replaced-others c a _ i (eqb-false i a e)
 done-others c (WallClock a) i e = replaced-others c a _ i (eqb-false i a e)
@@ -105,6 +160,7 @@ done-others c (MajorityRead a key asked) i e = ap (λ (d : Cluster). serverAt d 
 done-others c (Acknowledged a k n term) i e = refl
 done-others c (WritesNothing a) i e = replaced-others c a _ i (eqb-false i a e)
 done-others c (NewestRead a key n term) i e = ap (λ (d : Cluster). serverAt d i) (put-same c a)
+done-others c (TakesReport a) i e = forwarded-others c a _ i e
 done-others c ClocksAgree i e =
     changed-by Same (λ s. refl) (clockedOf (c .count) (greatestClock c)) c i (clocked-past (c .count) (greatestClock c) i (serverAt c i) e)
 
@@ -112,7 +168,7 @@ pub others-unchanged : (c : Cluster) (s : Step) (i : ℕ) → touches c s i ≡ 
 others-unchanged c s i e = stepped-by Same (λ x. refl) c s i (done-others c s i e)
 
 done-count : (c : Cluster) (s : Step) → isStart s ≡ false → doneOf c s .cluster .count ≡ c .count
-unfolding rowOf
+unfolding rowOf delivered
 done-count c (Start n) e = not-both true refl e
 done-count c (Elect a m) e = refl
 done-count c (StepDown a) e = refl
@@ -129,24 +185,67 @@ done-count c (Acknowledged a k n term) e = refl
 done-count c ClocksAgree e = refl
 done-count c (WritesNothing a) e = refl
 done-count c (NewestRead a key n term) e = refl
+done-count c (TakesReport a) e = delivered-count (withServer c a _) (forwards (serverAt c a))
 
 pub count-unchanged : (c : Cluster) (s : Step) → isStart s ≡ false → stepOf c s .cluster .count ≡ c .count
 count-unchanged c s e = ⊎-elim (λ d. rw (d .is) (done-count c s e)) (λ d. rw (d .is)) (step-cases c s)
 
 -- ---- what changes where several servers do
 
--- an election changes only terms and roles
-abbrev pub SameButOffice : Server → Server → Type 0
-SameButOffice s t = t ≡ officeOf s (t .head .term) (t .head .primary)
+-- an election changes only terms and roles, and of the winner the notes and the queue
+abbrev pub SameButOffice : Bool → Server → Server → Type 0
+SameButOffice won s t =
+    t ≡ withMail (withHead s (withPrimary (withTerm (s .head) (t .head .term)) (t .head .primary)))
+    (cond won (withNotes (withQueue (s .mail) (t .mail .queue)) (t .mail .notes)) (s .mail))
 
-pub elect-changes : (c : Cluster) (a m i : ℕ) → SameButOffice (serverAt c i) (serverAt (stepOf c (Elect a m) .cluster) i)
+same-office : (won : Bool) (s : Server) → SameButOffice won s s
+same-office true s = refl
+same-office false s = refl
+
+other-office : (won : Bool) (s : Server) (t : ℕ) → SameButOffice won s (officeOf s t won)
+other-office true s t = refl
+other-office false s t = refl
+
+pub elect-changes : (c : Cluster) (a m i : ℕ) → SameButOffice (eqb i a) (serverAt c i) (serverAt (stepOf c (Elect a m) .cluster) i)
 unfolding rowOf
 elect-changes c a m i =
-    stepped-by SameButOffice (λ s. refl) c (Elect a m) i (changed-by SameButOffice (λ s. refl) (votedOf a m (newTerm c a)) c i (go (member m i) refl))
+    stepped-by R itself c (Elect a m) i (changed-by R itself (votedOf a m (newTerm c a)) c i (go (member m i) refl))
   where
-    go : (b : Bool) → member m i ≡ b → SameButOffice (serverAt c i) (votedOf a m (newTerm c a) i (serverAt c i))
-    go true e = rw (voted-inside a m (newTerm c a) i (serverAt c i) e)
-    go false e = rw (voted-outside a m (newTerm c a) i (serverAt c i) e)
+    R : Server → Server → Type 0
+    R = SameButOffice (eqb i a)
+
+    itself : (s : Server) → R s s
+    itself = same-office (eqb i a)
+
+    go : (b : Bool) → member m i ≡ b → R (serverAt c i) (votedOf a m (newTerm c a) i (serverAt c i))
+    go true e = subst (R (serverAt c i)) (sym (voted-inside a m (newTerm c a) i (serverAt c i) e)) (other-office (eqb i a) (serverAt c i) (newTerm c a))
+    go false e = subst (R (serverAt c i)) (sym (voted-outside a m (newTerm c a) i (serverAt c i) e)) (itself (serverAt c i))
+
+-- what a server sends changes only a queue
+abbrev pub SameButQueue : Server → Server → Type 0
+SameButQueue s t = t ≡ withMail s (withQueue (s .mail) (t .mail .queue))
+
+pub delivered-queue : (c : Cluster) (x : Sends) (i : ℕ) → SameButQueue (serverAt c i) (serverAt (delivered c x) i)
+unfolding delivered
+delivered-queue c Nothing i = refl
+delivered-queue c (To b r) i = put-either (SameButQueue (serverAt c i)) c b _ i (λ e. rw e) refl
+
+-- so do pulls, rollbacks and reports that are taken, of all servers but the one that takes the step
+told-others : (c : Cluster) (a : ℕ) (s : Server) (x : Sends) (i : ℕ) → i ≢ a → SameButQueue (serverAt c i) (serverAt (delivered (withServer c a s) x) i)
+told-others c a s x i ne =
+    subst (λ (t : Server). SameButQueue t (serverAt (delivered (withServer c a s) x) i)) (replaced-others c a s i ne) (delivered-queue (withServer c a s) x i)
+
+pub pull-changes : (c : Cluster) (a b i : ℕ) → i ≢ a → SameButQueue (serverAt c i) (serverAt (stepOf c (Pulls a b) .cluster) i)
+unfolding rowOf
+pull-changes c a b i ne = stepped-by SameButQueue (λ s. refl) c (Pulls a b) i (told-others c a _ _ i ne)
+
+pub roll-changes : (c : Cluster) (a b i : ℕ) → i ≢ a → SameButQueue (serverAt c i) (serverAt (stepOf c (RollsBack a b) .cluster) i)
+unfolding rowOf
+roll-changes c a b i ne = stepped-by SameButQueue (λ s. refl) c (RollsBack a b) i (told-others c a _ _ i ne)
+
+pub take-changes : (c : Cluster) (a i : ℕ) → i ≢ a → SameButQueue (serverAt c i) (serverAt (stepOf c (TakesReport a) .cluster) i)
+unfolding rowOf
+take-changes c a i ne = stepped-by SameButQueue (λ s. refl) c (TakesReport a) i (told-others c a _ _ i ne)
 
 -- clocks that agree change only wall clocks
 abbrev pub SameButClock : Server → Server → Type 0

@@ -11,7 +11,7 @@ use Rattle.steps.specs.declared.Outcome.{Outcome}
 use Rattle.steps.specs.declared.Refusal.{Refusal}
 use Rattle.steps.specs.declared.Refusal.the-variants.{IllFormed}
 use Rattle.steps.specs.declared.Step.{Step}
-use Rattle.steps.specs.declared.Step.the-variants.{Start, Elect, StepDown, Hears, Pulls, RollsBack, Writes, Advances, WallClock, Restarts, LocalRead, MajorityRead, Acknowledged, ClocksAgree, WritesNothing, NewestRead}
+use Rattle.steps.specs.declared.Step.the-variants.{Start, Elect, StepDown, Hears, Pulls, RollsBack, Writes, Advances, WallClock, Restarts, LocalRead, MajorityRead, Acknowledged, ClocksAgree, WritesNothing, NewestRead, TakesReport}
 use Rattle.steps.specs.Answers.{refusingAll}
 use Rattle.steps.specs.Reasons.{Clear, Broken}
 use Rattle.steps.proofs.Decided.{clear-or-broken, decided-clear, decided-broken}
@@ -80,6 +80,7 @@ done-not-refused c (Acknowledged a k n term) = refl
 done-not-refused c ClocksAgree = refl
 done-not-refused c (WritesNothing a) = refl
 done-not-refused c (NewestRead a key n term) = refl
+done-not-refused c (TakesReport a) = refl
 
 -- a step that answers a refusal is the refused one
 pub done-no-refusal : (c : Cluster) (s : Step) (r : Refusal) → doneOf c s .answer ≡ A.Refused r → ⊥

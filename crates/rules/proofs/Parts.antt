@@ -11,7 +11,7 @@ use Rattle.steps.specs.declared.Outcome.{Outcome}
 use Rattle.steps.specs.declared.Stepped.{Stepped}
 use Rattle.steps.specs.declared.Answer.the-variants.{Refused}
 use Rattle.steps.specs.declared.Refusal.the-variants.{OutOfRange}
-use Rattle.steps.specs.declared.Step.the-variants.{StepDown, Hears, Pulls, RollsBack, Writes, WallClock, Restarts, LocalRead, MajorityRead, WritesNothing, NewestRead}
+use Rattle.steps.specs.declared.Step.the-variants.{StepDown, Hears, Pulls, RollsBack, Writes, WallClock, Restarts, LocalRead, MajorityRead, WritesNothing, NewestRead, TakesReport}
 use Rattle.steps.specs.Refusals.{Rules, decided}
 use Rattle.steps.specs.Answers.{refusing, refusingAll}
 use Rattle.steps.proofs.Decided.{decided-map}
@@ -25,13 +25,15 @@ use Rattle.singles.specs.WritesNothing.{nothingDone}
 use Rattle.singles.specs.LocalRead.{localRules, localDone}
 use Rattle.singles.specs.MajorityRead.{majorityRules, majorityDone}
 use Rattle.singles.specs.NewestRead.{newestRules, newestDone}
-use Rattle.rules.specs.Rules.{rowOf, bothInRange, putBack, coreOf}
+use Rattle.singles.specs.TakesReport.{takeRules, takeDone}
+use Rattle.rules.specs.Rules.{delivered, rowOf, bothInRange, putBack, coreOf}
 use Rattle.rules.specs.One.{oneOf, singleOf, pairOf}
 use Rattle.rules.proofs.Others.{put-same}
 
 -- what one server decides, put back, is what the record decides
 placed : (c : Cluster) (a : ℕ) (done : Stepped) (rs : Rules)
     → putBack c a (decided (refusing (serverAt c a)) done rs) ≡ decided (refusingAll c) (putBack c a done) rs
+unfolding delivered
 placed c a done rs =
     decided-map (putBack c a) (refusing (serverAt c a)) (refusingAll c) done (λ r i. record { cluster = put-same c a i; answer = Refused r }) rs
 
@@ -72,6 +74,10 @@ module _ (c : Cluster) (a : ℕ) where
   unfolding singleOf oneOf coreOf rowOf
   core-newest key n term = in-place _ _ (placed c a (newestDone (serverAt c a) key n) (newestRules (serverAt c a) key n term))
 
+  pub core-takes-report : singleOf c a (TakesReport a) ≡ coreOf c (TakesReport a)
+  unfolding singleOf oneOf coreOf rowOf
+  core-takes-report = in-place _ _ (placed c a (takeDone (serverAt c a)) (takeRules (serverAt c a)))
+
   module _ (b : ℕ) where
     apart-place : (x y : Outcome) → x ≡ y → decided (refusingAll c) x (bothInRange c a b []) ≡ decided (refusingAll c) y (bothInRange c a b [])
     apart-place x y e = ap (λ (o : Outcome). decided (refusingAll c) o (bothInRange c a b [])) e
@@ -82,8 +88,8 @@ module _ (c : Cluster) (a : ℕ) where
 
     pub core-pulls : pairOf c a b (Pulls a b) ≡ coreOf c (Pulls a b)
     unfolding pairOf oneOf coreOf rowOf
-    core-pulls = apart-place _ _ (placed c a (pullDone (serverAt c a) (serverAt c b)) (pullRules (serverAt c a) (serverAt c b)))
+    core-pulls = apart-place _ _ (placed c a (pullDone (serverAt c a) (serverAt c b) a b) (pullRules (serverAt c a) (serverAt c b)))
 
     pub core-rolls-back : pairOf c a b (RollsBack a b) ≡ coreOf c (RollsBack a b)
     unfolding pairOf oneOf coreOf rowOf
-    core-rolls-back = apart-place _ _ (placed c a (rollDone (serverAt c a) (serverAt c b)) (rollRules (serverAt c a) (serverAt c b)))
+    core-rolls-back = apart-place _ _ (placed c a (rollDone (serverAt c a) (serverAt c b) a b) (rollRules (serverAt c a) (serverAt c b)))

@@ -1,6 +1,6 @@
 -- The refusal that is given is the first of those that apply, by one order for all kinds. Assumes nothing.
 use mathlib.Core.Path.{_≡_, refl, sym, _∙_}
-use mathlib.Core.Bool.{Bool, true, false, _&&_, true≢false}
+use mathlib.Core.Bool.{Bool, true, _&&_, true≢false}
 use mathlib.Core.List.{[], _∷_}
 use Prim.Native.Nat.{ℕ, _≤_}
 use native.Mathlib.Omega.{arith}
@@ -11,7 +11,7 @@ use Rattle.cluster.specs.declared.Cluster.{Cluster}
 use Rattle.steps.specs.declared.Answer.the-variants as A
 use Rattle.steps.specs.declared.Refusal.{Refusal}
 use Rattle.steps.specs.declared.Step.{Step}
-use Rattle.steps.specs.declared.Step.the-variants.{Start, Elect, StepDown, Hears, Pulls, RollsBack, Writes, Advances, WallClock, Restarts, LocalRead, MajorityRead, Acknowledged, ClocksAgree, WritesNothing, NewestRead}
+use Rattle.steps.specs.declared.Step.the-variants.{Start, Elect, StepDown, Hears, Pulls, RollsBack, Writes, Advances, WallClock, Restarts, LocalRead, MajorityRead, Acknowledged, ClocksAgree, WritesNothing, NewestRead, TakesReport}
 use Rattle.steps.specs.Refusals.{Rules}
 use Rattle.steps.specs.Reasons.{Broken, here, later, Applies, first, among, rankOf}
 use Rattle.rules.specs.Rules.{rowOf, rulesOf, stepOf}
@@ -60,6 +60,7 @@ rules-rise c (Acknowledged a k n term) = refl
 rules-rise c ClocksAgree = refl
 rules-rise c (WritesNothing a) = refl
 rules-rise c (NewestRead a key n term) = refl
+rules-rise c (TakesReport a) = refl
 
 pub first-given : (c : Cluster) (s : Step) → (r : Refusal) → stepOf c s .answer ≡ A.Refused r → (q : Refusal) → Applies (rulesOf c s) q
     → rankOf r ≤ rankOf q

@@ -12,7 +12,8 @@ use Rattle.cluster.specs.Ranges.{FitsServer, Fits}
 use Rattle.cluster.specs.Servers.{mostServers, zeroServer, pastServer, serverAt, withServer}
 use Rattle.cluster.proofs.Changed.{replaced-others, changed-at}
 use Rattle.cluster.proofs.Good.{ServerGood, Good}
-use Rattle.rules.proofs.Lists.{all-set}
+use Rattle.mail.proofs.Good.{MailGood}
+use Rattle.rules.proofs.Lists.{all-set, all-at}
 use Rattle.rules.proofs.Others.{changedBy}
 use Rattle.rules.proofs.Servers.{ServerSound}
 
@@ -22,10 +23,10 @@ pub record Sound (c : Cluster) : Type 0 where
   pub good : Good c
 
 module _ {c : Cluster} (h : Sound c) where
-  pub counted-sound : (i : ℕ) → i < c .count → ServerSound (serverAt c i)
-  counted-sound i l = record { fits = h .fits .each i (omega (arith, h .good .at-most-seven)); good = h .good .counted i l }
+  pub counted-sound : (i : ℕ) → i < c .count → ServerSound (c .count) i (serverAt c i)
+  counted-sound i l = record { fits = h .fits .each i (omega (arith, h .good .at-most-seven)); good = h .good .counted i l; mailed = h .good .mailed i l }
 
-  pub replaced-sound : (a : ℕ) (s : Server) → a < c .count → ServerSound s → Sound (withServer c a s)
+  pub replaced-sound : (a : ℕ) (s : Server) → a < c .count → ServerSound (c .count) a s → Sound (withServer c a s)
   replaced-sound a s l new =
       record {
         fits = record {
@@ -37,13 +38,14 @@ module _ {c : Cluster} (h : Sound c) where
           at-least-two = h .good .at-least-two;
           at-most-seven = h .good .at-most-seven;
           counted = all-set ServerGood (c .servers) pastServer (c .count) (omega (arith, h .fits .slots, h .good .at-most-seven)) (h .good .counted) a s (new .good);
+          mailed = all-at (λ i x. MailGood (c .count) i (x .mail)) (c .servers) pastServer (c .count) (omega (arith, h .fits .slots, h .good .at-most-seven)) (h .good .mailed) a s (new .mailed);
           past = λ i k m. replaced-others c a s i (omega arith) ∙ h .good .past i k m;
         };
       }
 
   -- the changes have to leave counted servers as they should be, and servers past the count zero
-  module _ (f : ℕ → Server → Server) (new : (i : ℕ) → i < c .count → ServerSound (f i (serverAt c i))) (zero : (i : ℕ) → c .count ≤ i → f i zeroServer ≡ zeroServer) where
-    each-counted : (i : ℕ) → i < c .count → ServerSound (serverAt (changedBy f c) i)
+  module _ (f : ℕ → Server → Server) (new : (i : ℕ) → i < c .count → ServerSound (c .count) i (f i (serverAt c i))) (zero : (i : ℕ) → c .count ≤ i → f i zeroServer ≡ zeroServer) where
+    each-counted : (i : ℕ) → i < c .count → ServerSound (c .count) i (serverAt (changedBy f c) i)
     each-counted i l = rw (changed-at f c i (omega (arith, h .fits .slots, h .good .at-most-seven))) (new i l)
 
     each-past : (i : ℕ) → c .count ≤ i → i < mostServers → serverAt (changedBy f c) i ≡ zeroServer
@@ -62,6 +64,7 @@ module _ {c : Cluster} (h : Sound c) where
             at-least-two = h .good .at-least-two;
             at-most-seven = h .good .at-most-seven;
             counted = λ i l. each-counted i l .good;
+            mailed = λ i l. each-counted i l .mailed;
             past = each-past;
           };
         }

@@ -4,10 +4,14 @@ use Rattle.base.proofs.Results.{OneResult, one-result}
 use Rattle.cluster.specs.declared.Cluster.{Cluster}
 use Rattle.cluster.specs.declared.Server.{Server}
 use Rattle.steps.specs.declared.Step.{Step}
+use Rattle.steps.specs.declared.Sends.{Sends}
+use Rattle.steps.specs.declared.Stepped.{Stepped}
 use Rattle.rules.specs.One.{oneOf, pairOf, singleOf, untouchedOf}
-use Rattle.rules.specs.Rules.{coreOf, isStart, stepOf}
+use Rattle.rules.specs.Rules.{delivered, putBack, coreOf, isStart, stepOf}
 use Rattle.rules.proofs.untouched.Reads as untouched-reads
 use Rattle.rules.proofs.one.Reads as one-reads
+use Rattle.rules.proofs.deliver.Reads as deliver-reads
+use Rattle.rules.proofs.put_back.Reads as put-back-reads
 use Rattle.rules.proofs.single.Reads as single-reads
 use Rattle.rules.proofs.pair.Reads as pair-reads
 use Rattle.rules.proofs.core.Reads as core-reads
@@ -19,6 +23,12 @@ untouched s = one-result (untouchedOf s)
 
 pub one : (s t : Server) (kind : Step) → OneResult (λ x. one-reads.Learnt tt (s, (t, (kind, tt))) x (s, (t, (kind, tt))))
 one s t kind = one-result (oneOf s t kind)
+
+pub deliver : (c : Cluster) (sends : Sends) → OneResult (λ x. deliver-reads.Learnt tt (c, (sends, tt)) x (c, (sends, tt)))
+deliver c sends = one-result (delivered c sends)
+
+pub put-back : (c : Cluster) (a : ℕ) (o : Stepped) → OneResult (λ x. put-back-reads.Learnt tt (c, (a, (o, tt))) x (c, (a, (o, tt))))
+put-back c a o = one-result (putBack c a o)
 
 pub single : (c : Cluster) (a : ℕ) (kind : Step) → OneResult (λ x. single-reads.Learnt tt (c, (a, (kind, tt))) x (c, (a, (kind, tt))))
 single c a kind = one-result (singleOf c a kind)

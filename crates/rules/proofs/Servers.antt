@@ -1,9 +1,10 @@
 -- A counted server of a well-formed record stays one, kind by kind, where its rules are clear. Assumes nothing.
 use mathlib.Core.Path.{_≡_, refl, ap, sym, _∙_, subst}
 use mathlib.Core.Bool.{Bool, true, false, cond, _&&_, _||_}
-use mathlib.Core.Logic.{⊎-elim}
+use mathlib.Core.Logic.{_≢_, ⊎-elim}
 use mathlib.Core.List.{List, [], _∷_, _++_}
-use Prim.Native.Nat.{ℕ, _<_, _≤_, max}
+use Prim.Native.Nat.{ℕ, _+_, _<_, _≤_, max}
+use native.Mathlib.Numerals.{add-one}
 use native.Mathlib.Omega.{arith}
 use lib.Dec.{eqb, ltb}
 use lib.ListN.{length}
@@ -19,7 +20,9 @@ use Rattle.clock.proofs.Order.{before-itself, then-before, not-after-trans, lat
 use Rattle.clock.proofs.Ticks.{tick-after}
 use Rattle.log.specs.declared.Entry.{Entry}
 use Rattle.log.specs.declared.Log.{Log}
-use Rattle.log.specs.Entries.{entryAt, appliedTime, equalAt}
+use Rattle.base.proofs.Facts.{lt-or-le}
+use Rattle.log.specs.Entries.{entryAt, lastTerm, appliedTime, equalAt}
+use Rattle.log.proofs.Live.{entryAt-zero}
 use Rattle.log.specs.Logs.{logLimit, live, lengthOf, appended, joined}
 use Rattle.log.specs.Ranges.{FitsEntry, FitsLog}
 use Rattle.log.proofs.Common.{common-le, rolled-is}
@@ -30,13 +33,23 @@ use Rattle.log.proofs.Tidy.{tidy-length, live-appended, tidy-appended, live-joi
 use Rattle.cluster.specs.declared.Head.{Head}
 use Rattle.cluster.specs.declared.Server.{Server}
 use Rattle.cluster.specs.Ranges.{FitsServer}
-use Rattle.cluster.specs.Servers.{withPrimary, withHead}
-use Rattle.cluster.proofs.Changed.{fits-head, fits-log}
+use Rattle.cluster.specs.Servers.{mostServers, withPrimary, withHead, withMail}
+use Rattle.mail.specs.declared.Mail.{Mail}
+use Rattle.mail.specs.Mails.{emptied, withSource}
+use Rattle.mail.specs.Ranges.{FitsReport, FitsMail}
+use Rattle.mail.proofs.Good.{UsedReport, MailGood, source-of}
+use Rattle.mail.proofs.Kept.{oldest-used, zero-good, taken-good, noted-good, emptied-good, sourced-good}
+use Rattle.mail.proofs.Ranges.{fits-zero-mail, fits-report-at, fits-taken, fits-noted, fits-emptied, fits-sourced}
+use Rattle.cluster.proofs.Changed.{fits-head, fits-log, fits-mail}
 use Rattle.cluster.proofs.Good.{ServerGood}
 use Rattle.steps.specs.Reasons.{Clear}
+use Rattle.steps.specs.Answers.{numberOf}
+use Rattle.steps.proofs.Numbers.{number-kept, number-fits}
 use Rattle.pairs.specs.Hears.{takesCommit, heardOf}
 use Rattle.pairs.specs.Pulls.{pullRules, tookOf, pulledOf}
 use Rattle.pairs.specs.RollsBack.{common, rollRules, rolledOf}
+use Rattle.pairs.specs.Reports.{reportOf}
+use Rattle.singles.specs.TakesReport.{takeRules, takeDone}
 use Rattle.singles.specs.Restarts.{restartedOf}
 use Rattle.singles.specs.Appends.{ticks, tickTime, appendRules, newEntry, stampedOf}
 use Rattle.counts.specs.Advances.{committedOf}
@@ -44,51 +57,98 @@ use Rattle.rules.proofs.Others.{officeOf, wallOf}
 use Rattle.rules.proofs.Logs.{log-raised, appended-good, joined-good}
 use Rattle.rules.proofs.Ranges.{fits-later, fits-tick, fits-entry, fits-appended, fits-joined}
 
--- as every counted server of a well-formed record that fits
-pub record ServerSound (s : Server) : Type 0 where
+-- as every counted server i of a well-formed record of n that fits
+pub record ServerSound (n i : ℕ) (s : Server) : Type 0 where
   pub fits : FitsServer s
   pub good : ServerGood s
+  pub mailed : MailGood n i (s .mail)
 
 -- ---- kinds that keep the log
 
 -- a server with the same log: its other head has to meet these
-pub log-kept : {s : Server} {h : Head} → ServerSound s → s .head .term ≤ h .term → h .term ≤ limit → (h .primary ≡ true → 1 ≤ h .term)
+pub log-kept : {n i : ℕ} {s : Server} {h : Head} → ServerSound n i s → s .head .term ≤ h .term → h .term ≤ limit → (h .primary ≡ true → 1 ≤ h .term)
     → h .commit ≤ s .log .len → 1 ≤ h .wall → h .wall ≤ limit → FitsTime (h .time) → isBefore (h .time) (appliedTime (live (s .log))) ≡ false
-    → ServerSound (withHead s h)
+    → ServerSound n i (withHead s h)
 log-kept x up term role commit wall clock time last =
     record {
       fits = fits-head (x .fits) (record { term = term; commit = omega (arith, x .good .log .tidy .short); wall = clock; time = time });
       good = record { log = log-raised up (x .good .log); last-time = last; commit-point = commit; wall-clock = wall; primary-term = role };
+      mailed = x .mailed;
     }
 
-module _ {s : Server} (h : ServerSound s) where
-  pub down-sound : ServerSound (withHead s (withPrimary (s .head) false))
+-- a server with other mail
+pub mail-set : {n i : ℕ} {s : Server} {m : Mail} → ServerSound n i s → FitsMail m → MailGood n i m → ServerSound n i (withMail s m)
+mail-set x f g =
+    record {
+      fits = fits-mail (x .fits) f;
+      good = record { log = x .good .log; last-time = x .good .last-time; commit-point = x .good .commit-point; wall-clock = x .good .wall-clock; primary-term = x .good .primary-term };
+      mailed = g;
+    }
+
+module _ {n i : ℕ} {s : Server} (h : ServerSound n i s) where
+  pub down-sound : ServerSound n i (withHead s (withPrimary (s .head) false))
   down-sound =
       log-kept h (omega arith) (h .fits .head .term) (λ p. not-both false p refl) (h .good .commit-point) (h .good .wall-clock) (h .fits .head .wall) (h .fits .head .time) (h .good .last-time)
 
-  pub wall-sound : (w : ℕ) → 1 ≤ w → w ≤ limit → ServerSound (wallOf s w)
+  pub wall-sound : (w : ℕ) → 1 ≤ w → w ≤ limit → ServerSound n i (wallOf s w)
   wall-sound w from to =
       log-kept h (omega arith) (h .fits .head .term) (h .good .primary-term) (h .good .commit-point) from to (h .fits .head .time) (h .good .last-time)
 
-  pub restarted-sound : ServerSound (restartedOf s)
+  pub restarted-sound : ServerSound n i (restartedOf s)
   restarted-sound =
-      log-kept h (omega arith) (h .fits .head .term) (λ p. not-both false p refl) (omega arith) (h .good .wall-clock) (h .fits .head .wall)
-      (fits-entry (h .fits .log) (lengthOf (s .log)) .time) (before-itself (appliedTime (live (s .log))))
+      mail-set (log-kept h (omega arith) (h .fits .head .term) (λ p. not-both false p refl) (omega arith) (h .good .wall-clock) (h .fits .head .wall)
+      (fits-entry (h .fits .log) (lengthOf (s .log)) .time) (before-itself (appliedTime (live (s .log))))) fits-zero-mail zero-good
 
-  pub committed-sound : (n : ℕ) → n ≤ lengthOf (s .log) → ServerSound (committedOf s n)
-  committed-sound n l =
+  pub committed-sound : (p : ℕ) → p ≤ lengthOf (s .log) → ServerSound n i (committedOf s p)
+  committed-sound p l =
       log-kept h (omega arith) (h .fits .head .term) (h .good .primary-term) (omega (arith, tidy-length (h .good .log .tidy))) (h .good .wall-clock) (h .fits .head .wall) (h .fits .head .time)
       (h .good .last-time)
 
   -- a member takes a term that is above its own
-  pub voted-sound : (t : ℕ) (p : Bool) → s .head .term < t → t ≤ limit → ServerSound (officeOf s t p)
+  pub voted-sound : (t : ℕ) (p : Bool) → s .head .term < t → t ≤ limit → ServerSound n i (officeOf s t p)
   voted-sound t p up to =
-      log-kept h (omega arith) to (λ q. omega arith) (h .good .commit-point) (h .good .wall-clock) (h .fits .head .wall) (h .fits .head .time) (h .good .last-time)
+      mail-set (log-kept h (omega arith) to (λ q. omega arith) (h .good .commit-point) (h .good .wall-clock) (h .fits .head .wall) (h .fits .head .time) (h .good .last-time))
+      (fits p) (good p)
+    where
+      -- a winner's mail is emptied, and the others' stays
+      fits : (b : Bool) → FitsMail (cond b (emptied (s .mail)) (s .mail))
+      fits true = fits-emptied (h .fits .mail)
+      fits false = h .fits .mail
+
+      good : (b : Bool) → MailGood n i (cond b (emptied (s .mail)) (s .mail))
+      good true = emptied-good (h .mailed)
+      good false = h .mailed
+
+  -- the oldest report is noted and leaves the queue
+  pub taken-sound : Clear (takeRules s) → ServerSound n i (takeDone s .server)
+  taken-sound c =
+      let some = leb-true 1 (s .mail .queue .len) (c .0) in
+      mail-set h (fits-taken (fits-noted (h .fits .mail) (fits-report-at (h .fits .mail .queue) 0))) (taken-good (noted-good (h .mailed) (oldest-used (h .mailed .queue) some)))
+
+  -- and what a log of some entries is told of is a used report
+  pub report-used : i < n → 1 ≤ lengthOf (s .log) → UsedReport n (reportOf i s)
+  report-used l some =
+      let len = tidy-length (h .good .log .tidy) in
+      let last = h .good .log .order .each (lengthOf (s .log)) some (omega arith) in
+      let kept : numberOf (lengthOf (s .log)) ≡ lengthOf (s .log) = number-kept (lengthOf (s .log)) (omega (arith, h .good .log .tidy .short)) in
+      record { below = l; from-one = omega (arith, kept); not-past = omega (arith, kept, h .good .log .tidy .short); last-from-one = last .from-one; last-not-above = last .not-above }
+
+  pub report-fits : i < byte → FitsReport (reportOf i s)
+  report-fits l =
+      record {
+        who = l;
+        note = record { term = h .fits .head .term; last = fits-entry (h .fits .log) (lengthOf (s .log)) .term; len = number-fits (lengthOf (s .log)) };
+      }
+
+  -- b is its source
+  pub sourced-sound : (b : ℕ) → b < n → b ≢ i → n ≤ mostServers → ServerSound n i (withMail s (withSource (s .mail) (b + 1)))
+  sourced-sound b l ne few =
+      mail-set h (fits-sourced (h .fits .mail) (omega arith)) (sourced-good (h .mailed) (rw add-one (source-of l ne)))
 
 -- ---- kinds that look at another server
 
-module _ {s t : Server} (h : ServerSound s) (k : ServerSound t) where
-  pub heard-sound : ServerSound (heardOf s t)
+module _ {n i j : ℕ} {s t : Server} (h : ServerSound n i s) (k : ServerSound n j t) where
+  pub heard-sound : ServerSound n i (heardOf s t)
   unfolding heardOf takesCommit
   heard-sound =
       log-kept h (omega arith) (omega (arith, h .fits .head .term, k .fits .head .term)) (λ p. omega (arith, h .good .primary-term (and-left _ _ p))) (reached _ refl)
@@ -106,7 +166,7 @@ module _ {s t : Server} (h : ServerSound s) (k : ServerSound t) where
       reached false e = h .good .commit-point
 
   took-sound : (g : Log) → LogGood (max (s .head .term) (t .head .term)) g → FitsLog g → appliedTime (live g) ≡ appliedTime (live (t .log))
-      → s .head .commit ≤ g .len → t .head .commit ≤ g .len → ServerSound (tookOf s t g)
+      → s .head .commit ≤ g .len → t .head .commit ≤ g .len → ServerSound n i (tookOf s t g)
   unfolding tookOf
   took-sound g order range last sc tc =
       record {
@@ -123,9 +183,10 @@ module _ {s t : Server} (h : ServerSound s) (k : ServerSound t) where
           wall-clock = h .good .wall-clock;
           primary-term = λ p. omega (arith, h .good .primary-term p);
         };
+        mailed = h .mailed;
       }
 
-  pub pulled-sound : Clear (pullRules s t) → ServerSound (pulledOf s t)
+  pub pulled-sound : Clear (pullRules s t) → ServerSound n i (pulledOf s t)
   pulled-sound c =
       let ls : lengthOf (s .log) ≡ s .log .len = tidy-length (h .good .log .tidy) in
       let lt : lengthOf (t .log) ≡ t .log .len = tidy-length (k .good .log .tidy) in
@@ -145,12 +206,29 @@ module _ {s t : Server} (h : ServerSound s) (k : ServerSound t) where
           (λ q. equal-at (live (s .log)) (live (t .log)) (lengthOf (s .log)) q .same) (or-cases (eqb (lengthOf (s .log)) 0) _ e)
 
   -- a rollback's log is the other server's
-  pub rolled-sound : Clear (rollRules s t) → ServerSound (rolledOf s t)
+  pub rolled-sound : Clear (rollRules s t) → ServerSound n i (rolledOf s t)
   rolled-sound c =
       let kept : s .head .commit ≤ common s t = leb-true _ _ (c .1 .1 .1 .1 .0) in
-      subst (λ (g : Log). ServerSound (tookOf s t g)) (sym (rolled-is (s .log) (t .log)))
+      subst (λ (g : Log). ServerSound n i (tookOf s t g)) (sym (rolled-is (s .log) (t .log)))
       (took-sound (t .log) (log-raised (omega arith) (k .good .log)) (k .fits .log) refl
       (omega (arith, common-le (live (s .log)) (live (t .log)) .1, tidy-length (k .good .log .tidy))) (k .good .commit-point))
+
+  -- either way there are entries then, as many as the other has
+  took-some : (g : Log) → ServerSound n i (tookOf s t g) → g .len ≡ t .log .len → 1 ≤ lengthOf (t .log) → 1 ≤ lengthOf (tookOf s t g .log)
+  unfolding tookOf
+  took-some g x e some = omega (arith, tidy-length (x .good .log .tidy), tidy-length (k .good .log .tidy))
+
+  pub pulled-some : Clear (pullRules s t) → 1 ≤ lengthOf (pulledOf s t .log)
+  pulled-some c = took-some _ (pulled-sound c) refl (omega (arith, ltb-true (lengthOf (s .log)) (lengthOf (t .log)) (c .1 .0)))
+
+  pub rolled-some : Clear (rollRules s t) → 1 ≤ lengthOf (rolledOf s t .log)
+  rolled-some c = took-some _ (rolled-sound c) refl (⊎-elim (λ l. l) none (lt-or-le 0 (lengthOf (t .log))))
+    where
+      -- the last term of no entries is 0, and none is below it
+      none : lengthOf (t .log) ≤ 0 → 1 ≤ lengthOf (t .log)
+      none l =
+          let z = ap (λ (e : Entry). e .term) (entryAt-zero (live (t .log)) (lengthOf (t .log)) (omega arith)) in
+          absurd (omega (arith, ltb-true (lastTerm (live (s .log))) (lastTerm (live (t .log))) (c .1 .1 .0), z))
 
 -- ---- an entry that is appended
 
@@ -158,9 +236,9 @@ pub ticked-to : (k : Ticked) → ticks k ≡ true → k ≡ To (tickTime k)
 ticked-to (To t) e = refl
 ticked-to AtLimit e = not-both false e refl
 
-module _ {s : Server} (h : ServerSound s) (key value : ℕ) (kept : key < byte) (small : value ≤ limit) (w : Writing key value) (c : Clear (appendRules s)) where
+module _ {n i : ℕ} {s : Server} (h : ServerSound n i s) (key value : ℕ) (kept : key < byte) (small : value ≤ limit) (w : Writing key value) (c : Clear (appendRules s)) where
   -- the new time is after the cluster time, which is not before the applied time
-  stamped-at : (u : Time) → tickOf (s .head .wall) (s .head .time) ≡ To u → ServerSound (stampedOf s key value u)
+  stamped-at : (u : Time) → tickOf (s .head .wall) (s .head .time) ≡ To u → ServerSound n i (stampedOf s key value u)
   unfolding stampedOf
   stamped-at u tick =
       record {
@@ -172,6 +250,7 @@ module _ {s : Server} (h : ServerSound s) (key value : ℕ) (kept : key < byte) 
           wall-clock = h .good .wall-clock;
           primary-term = h .good .primary-term;
         };
+        mailed = h .mailed;
       }
     where
       room : s .log .len < logLimit
@@ -202,5 +281,5 @@ module _ {s : Server} (h : ServerSound s) (key value : ℕ) (kept : key < byte) 
             length-more (live (s .log)) (newEntry s key value u),
           )
 
-  pub appended-sound : ServerSound (stampedOf s key value (tickTime (tickOf (s .head .wall) (s .head .time))))
+  pub appended-sound : ServerSound n i (stampedOf s key value (tickTime (tickOf (s .head .wall) (s .head .time))))
   appended-sound = stamped-at _ (ticked-to (tickOf (s .head .wall) (s .head .time)) (c .1 .1 .0))

@@ -16,6 +16,7 @@ use Rattle.log.specs.Order.{entryOk, follows, placeOk, inOrder, restZero, logOk
 use Rattle.cluster.specs.declared.Cluster.{Cluster}
 use Rattle.cluster.specs.Servers.{freshCluster, startedOf, serverAt, votedOf}
 use Rattle.cluster.specs.Sets.{member, isWithin}
+use Rattle.mail.specs.Order.{isUnused, isUsed, noteOk, notesOk, slotOk, queueOk, sourceOk, mailOk}
 use Rattle.cluster.specs.WellFormed.{numbersOk, countedOk, zeroOk, serverOk, wellFormed}
 use Rattle.steps.specs.declared.Answer.{Answer}
 use Rattle.steps.specs.declared.Answer.the-variants as A
@@ -28,7 +29,7 @@ use Rattle.steps.specs.declared.Telling.the-variants as T
 use Rattle.steps.specs.Answers.{tellingOf}
 use Rattle.singles.specs.Appends.{stampedOf}
 use Rattle.wholes.specs.Elects.{notBehind, mayVote, allMayVote}
-use Rattle.rules.specs.Rules.{rowOf, coreOf, stepOf}
+use Rattle.rules.specs.Rules.{delivered, rowOf, coreOf, stepOf}
 use Rattle.rules.proofs.Outcomes.{isRefused}
 use Rattle.rules.specs.Statements.{Program, Differs, refusesEach, saysOne, leavesAll, echoesLater}
 
@@ -63,7 +64,7 @@ record Runs : Type 0 where
   reads-none : stepOf written (reading 6) .answer ≡ A.Value 0 written-at
 
 runs : Runs
-unfolding every count highest eachFrom isBefore sameTime tickOf sameEntry entryAt latestValue appended entryOk follows placeOk inOrder restZero logOk startedOf votedOf member isWithin numbersOk countedOk zeroOk serverOk wellFormed stampedOf notBehind mayVote allMayVote rowOf coreOf stepOf
+unfolding every count highest eachFrom isBefore sameTime tickOf sameEntry entryAt latestValue appended entryOk follows placeOk inOrder restZero logOk isUnused isUsed noteOk notesOk slotOk queueOk sourceOk mailOk startedOf votedOf member isWithin numbersOk countedOk zeroOk serverOk wellFormed stampedOf notBehind mayVote allMayVote delivered rowOf coreOf stepOf
 runs =
     record {
       well-formed = refl;

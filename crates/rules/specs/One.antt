@@ -5,7 +5,8 @@ use Prim.Native.Nat.{ℕ}
 use Rattle.cluster.specs.declared.Cluster.{Cluster}
 use Rattle.cluster.specs.declared.Server.{Server}
 use Rattle.steps.specs.declared.Step.{Step}
-use Rattle.steps.specs.declared.Step.the-variants.{Start, Elect, StepDown, Hears, Pulls, RollsBack, Writes, Advances, WallClock, Restarts, LocalRead, MajorityRead, Acknowledged, ClocksAgree, WritesNothing, NewestRead}
+use Rattle.steps.specs.declared.Step.the-variants.{Start, Elect, StepDown, Hears, Pulls, RollsBack, Writes, Advances, WallClock, Restarts, LocalRead, MajorityRead, Acknowledged, ClocksAgree, WritesNothing, NewestRead, TakesReport}
+use Rattle.steps.specs.declared.Sends.the-variants.{Nothing}
 use Rattle.steps.specs.declared.Stepped.{Stepped}
 use Rattle.steps.specs.declared.Outcome.{Outcome}
 use Rattle.steps.specs.declared.Answer.the-variants.{Done}
@@ -24,18 +25,19 @@ use Rattle.singles.specs.WritesNothing.{writesNothingOf}
 use Rattle.singles.specs.LocalRead.{localReadOf}
 use Rattle.singles.specs.MajorityRead.{majorityReadOf}
 use Rattle.singles.specs.NewestRead.{newestReadOf}
+use Rattle.singles.specs.TakesReport.{takesReportOf}
 
 -- a step of the whole cluster leaves a server as it is
 abbrev pub untouchedOf : Server → Stepped
-untouchedOf s = record { server = s; answer = Done }
+untouchedOf s = record { server = s; answer = Done; sends = Nothing }
 
 unfoldable pub oneOf : Server → Server → Step → Stepped
 oneOf s t (Start n) = untouchedOf s
 oneOf s t (Elect a m) = untouchedOf s
 oneOf s t (StepDown a) = stepsDownOf s
 oneOf s t (Hears a b) = hearsOf s t
-oneOf s t (Pulls a b) = pullsOf s t
-oneOf s t (RollsBack a b) = rollsBackOf s t
+oneOf s t (Pulls a b) = pullsOf s t a b
+oneOf s t (RollsBack a b) = rollsBackOf s t a b
 oneOf s t (Writes a key value) = writesOf s key value
 oneOf s t (Advances a) = untouchedOf s
 oneOf s t (WallClock a) = wallClockOf s
@@ -46,6 +48,7 @@ oneOf s t (Acknowledged a k n term) = untouchedOf s
 oneOf s t ClocksAgree = untouchedOf s
 oneOf s t (WritesNothing a) = writesNothingOf s
 oneOf s t (NewestRead a key n term) = newestReadOf s key n term
+oneOf s t (TakesReport a) = takesReportOf s
 
 -- server a of the record takes the step, alone
 unfoldable pub singleOf : Cluster → ℕ → Step → Outcome

@@ -3,13 +3,16 @@ use mathlib.Core.List.{[], _∷_}
 use mathlib.Core.Bool.{Bool, cond, not, _||_}
 use Prim.Native.Nat.{ℕ}
 use lib.Dec.{eqb, ltb}
+use Rattle.mail.specs.Mails.{received}
 use Rattle.cluster.specs.declared.Cluster.{Cluster}
-use Rattle.cluster.specs.Servers.{serverCount, serverAt, withServer}
+use Rattle.cluster.specs.Servers.{serverCount, serverAt, withMail, withServer}
 use Rattle.cluster.specs.WellFormed.{wellFormed}
 use Rattle.steps.specs.declared.Step.{Step}
-use Rattle.steps.specs.declared.Step.the-variants.{Start, Elect, StepDown, Hears, Pulls, RollsBack, Writes, Advances, WallClock, Restarts, LocalRead, MajorityRead, Acknowledged, ClocksAgree, WritesNothing, NewestRead}
+use Rattle.steps.specs.declared.Step.the-variants.{Start, Elect, StepDown, Hears, Pulls, RollsBack, Writes, Advances, WallClock, Restarts, LocalRead, MajorityRead, Acknowledged, ClocksAgree, WritesNothing, NewestRead, TakesReport}
 use Rattle.steps.specs.declared.Refusal.{Refusal}
 use Rattle.steps.specs.declared.Refusal.the-variants.{IllFormed, OutOfRange}
+use Rattle.steps.specs.declared.Sends.{Sends}
+use Rattle.steps.specs.declared.Sends.the-variants.{Nothing, To}
 use Rattle.steps.specs.declared.Stepped.{Stepped}
 use Rattle.steps.specs.declared.Outcome.{Outcome}
 use Rattle.steps.specs.Fields.{frameFor}
@@ -27,6 +30,7 @@ use Rattle.singles.specs.WritesNothing.{nothingDone}
 use Rattle.singles.specs.LocalRead.{localRules, localDone}
 use Rattle.singles.specs.MajorityRead.{majorityRules, majorityDone}
 use Rattle.singles.specs.NewestRead.{newestRules, newestDone}
+use Rattle.singles.specs.TakesReport.{takeRules, takeDone}
 use Rattle.wholes.specs.Starts.{startRules, startDone}
 use Rattle.wholes.specs.ClocksAgree.{agreesOf}
 use Rattle.wholes.specs.Elects.{electRules, electDone}
@@ -41,9 +45,14 @@ inRange c a = (ltb a (serverCount c), OutOfRange)
 abbrev pub bothInRange : Cluster → ℕ → ℕ → Rules → Rules
 bothInRange c a b rs = inRange c a ∷ inRange c b ∷ (not (eqb a b), OutOfRange) ∷ rs
 
--- server a as a step left it, the others unchanged, and its answer
+-- what a step sends: a report to the end of a server's queue
+unfoldable pub delivered : Cluster → Sends → Cluster
+delivered c Nothing = c
+delivered c (To b r) = withServer c b (withMail (serverAt c b) (received (serverAt c b .mail) r))
+
+-- server a as a step left it, what it sends delivered, the others unchanged, and its answer
 abbrev pub putBack : Cluster → ℕ → Stepped → Outcome
-putBack c a o = record { cluster = withServer c a (o .server); answer = o .answer }
+putBack c a o = record { cluster = delivered (withServer c a (o .server)) (o .sends); answer = o .answer }
 
 -- 01's table of steps with 02's, a row a kind: what has to hold, in the order in which it is refused; the record afterwards and the answer
 unfoldable pub rowOf : Cluster → Step → Rules × Outcome
@@ -51,8 +60,8 @@ rowOf c (Start n) = (startRules n, startDone n)
 rowOf c (Elect a m) = (electRules c a m, electDone c a m)
 rowOf c (StepDown a) = (inRange c a ∷ downRules (serverAt c a .head), putBack c a (downDone (serverAt c a)))
 rowOf c (Hears a b) = (bothInRange c a b [], putBack c a (hearsOf (serverAt c a) (serverAt c b)))
-rowOf c (Pulls a b) = (bothInRange c a b (pullRules (serverAt c a) (serverAt c b)), putBack c a (pullDone (serverAt c a) (serverAt c b)))
-rowOf c (RollsBack a b) = (bothInRange c a b (rollRules (serverAt c a) (serverAt c b)), putBack c a (rollDone (serverAt c a) (serverAt c b)))
+rowOf c (Pulls a b) = (bothInRange c a b (pullRules (serverAt c a) (serverAt c b)), putBack c a (pullDone (serverAt c a) (serverAt c b) a b))
+rowOf c (RollsBack a b) = (bothInRange c a b (rollRules (serverAt c a) (serverAt c b)), putBack c a (rollDone (serverAt c a) (serverAt c b) a b))
 rowOf c (Writes a key value) = (inRange c a ∷ writeRules (serverAt c a) key value, putBack c a (appendDone (serverAt c a) key value))
 rowOf c (Advances a) = (advanceRules c a, advanceDone c a)
 rowOf c (WallClock a) = (inRange c a ∷ clockRules (serverAt c a .head), putBack c a (clockDone (serverAt c a)))
@@ -63,6 +72,7 @@ rowOf c (Acknowledged a k n term) = (acknowledgeRules c a k n term, acknowledgeD
 rowOf c ClocksAgree = ([], agreesOf c)
 rowOf c (WritesNothing a) = (inRange c a ∷ appendRules (serverAt c a), putBack c a (nothingDone (serverAt c a)))
 rowOf c (NewestRead a key n term) = (inRange c a ∷ newestRules (serverAt c a) key n term, putBack c a (newestDone (serverAt c a) key n))
+rowOf c (TakesReport a) = (inRange c a ∷ takeRules (serverAt c a), putBack c a (takeDone (serverAt c a)))
 
 abbrev pub rulesOf : Cluster → Step → Rules
 rulesOf c s = rowOf c s .0

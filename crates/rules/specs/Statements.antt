@@ -1,9 +1,10 @@
 -- The words of what is claimed of the step: why it refuses, which servers it touches, and which programs differ from it. Assumes nothing.
 use mathlib.Core.Path.{_≡_}
 use mathlib.Core.Bool.{Bool, true, false, cond, _||_}
-use Prim.Native.Nat.{ℕ}
+use Prim.Native.Nat.{ℕ, suc}
 use lib.Dec.{eqb, ltb}
 use Rattle.cluster.specs.declared.Cluster.{Cluster}
+use Rattle.cluster.specs.Servers.{serverAt}
 use Rattle.cluster.specs.Sets.{member}
 use Rattle.cluster.specs.WellFormed.{wellFormed}
 use Rattle.steps.specs.declared.Answer.{Answer}
@@ -12,7 +13,7 @@ use Rattle.steps.specs.declared.Outcome.{Outcome}
 use Rattle.steps.specs.declared.Refusal.{Refusal}
 use Rattle.steps.specs.declared.Refusal.the-variants.{IllFormed}
 use Rattle.steps.specs.declared.Step.{Step}
-use Rattle.steps.specs.declared.Step.the-variants.{Start, Elect, StepDown, Hears, Pulls, RollsBack, Writes, Advances, WallClock, Restarts, LocalRead, MajorityRead, Acknowledged, ClocksAgree, WritesNothing, NewestRead}
+use Rattle.steps.specs.declared.Step.the-variants.{Start, Elect, StepDown, Hears, Pulls, RollsBack, Writes, Advances, WallClock, Restarts, LocalRead, MajorityRead, Acknowledged, ClocksAgree, WritesNothing, NewestRead, TakesReport}
 use Rattle.steps.specs.Answers.{refusingAll}
 use Rattle.steps.specs.Reasons.{Broken}
 use Rattle.rules.specs.Rules.{isStart, rulesOf, stepOf}
@@ -26,14 +27,14 @@ pub data Why (c : Cluster) (s : Step) : Refusal → Type 0 where
 
 -- ---- which servers a step touches
 
--- the server that it names, a set's members, every counted server; a step that only asks changes none
+-- the server that it names and the one that it sends a report to, a set's members, every counted server; a step that only asks changes none
 abbrev pub touches : Cluster → Step → ℕ → Bool
 touches c (Start n) i = true
 touches c (Elect a m) i = member m i
 touches c (StepDown a) i = eqb i a
 touches c (Hears a b) i = eqb i a
-touches c (Pulls a b) i = eqb i a
-touches c (RollsBack a b) i = eqb i a
+touches c (Pulls a b) i = eqb i a || eqb i b
+touches c (RollsBack a b) i = eqb i a || eqb i b
 touches c (Writes a key value) i = eqb i a
 touches c (Advances a) i = eqb i a
 touches c (WallClock a) i = eqb i a
@@ -44,6 +45,7 @@ touches c (Acknowledged a k n term) i = false
 touches c ClocksAgree i = ltb i (c .count)
 touches c (WritesNothing a) i = eqb i a
 touches c (NewestRead a key n term) i = false
+touches c (TakesReport a) i = eqb i a || eqb (suc i) (serverAt c a .mail .source)
 
 -- ---- what a program is held to
 

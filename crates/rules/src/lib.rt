@@ -1,6 +1,6 @@
 // The step: a record and a step in, the next record and an answer out, for every record and every step.
 ghost use mathlib.Core.Path.{_≡_};
-ghost use Rattle.rules.specs.Rules.{isStart, coreOf, stepOf};
+ghost use Rattle.rules.specs.Rules.{delivered, putBack, isStart, coreOf, stepOf};
 ghost use Rattle.rules.specs.One.{untouchedOf, oneOf, singleOf, pairOf};
 use cluster::Cluster;
 use cluster::Server;
@@ -14,12 +14,14 @@ use singles::majority_read::majority_read;
 use singles::newest_read::newest_read;
 use singles::restarts::restarts;
 use singles::steps_down::steps_down;
+use singles::takes_report::takes_report;
 use singles::wall_clock::wall_clock;
 use singles::writes::writes;
 use singles::writes_nothing::writes_nothing;
 use steps::Answer;
 use steps::Outcome;
 use steps::Refusal;
+use steps::Sends;
 use steps::Step;
 use steps::Stepped;
 use wholes::clocks_agree::clocks_agree;
@@ -33,6 +35,7 @@ pub fn untouched(s: Server) -> Stepped
     Stepped {
         server: s,
         answer: Answer::Done,
+        sends: Sends::Nothing,
     }
 }
 
@@ -43,8 +46,8 @@ pub fn one(s: Server, t: Server, step: Step) -> Stepped
     match step {
         Step::StepDown(_) => steps_down(s),
         Step::Hears(_, _) => hears(s, t),
-        Step::Pulls(_, _) => pulls(s, t),
-        Step::RollsBack(_, _) => rolls_back(s, t),
+        Step::Pulls(a, b) => pulls(s, t, a, b),
+        Step::RollsBack(a, b) => rolls_back(s, t, a, b),
         Step::Writes(_, key, value) => writes(s, key, value),
         Step::WallClock(_) => wall_clock(s),
         Step::Restarts(_) => restarts(s),
@@ -52,11 +55,43 @@ pub fn one(s: Server, t: Server, step: Step) -> Stepped
         Step::MajorityRead(_, key, asked) => majority_read(s, key, asked),
         Step::WritesNothing(_) => writes_nothing(s),
         Step::NewestRead(_, key, n, term) => newest_read(s, key, n as usize, term),
+        Step::TakesReport(_) => takes_report(s),
         Step::Start(_) => untouched(s),
         Step::Elect(_, _) => untouched(s),
         Step::Advances(_) => untouched(s),
         Step::Acknowledged(_, _, _, _) => untouched(s),
         Step::ClocksAgree => untouched(s),
+    }
+}
+
+// The record with what a step sends delivered.
+pub fn deliver(c: Cluster, sends: Sends) -> Cluster
+    ensures { λ r. ⌜ r ≡ delivered c sends ⌝ }
+{
+    let Sends::To(b, r) = sends else {
+        return c;
+    };
+    if cluster::MOST_SERVERS <= b {
+        return c;
+    }
+    let t = c.servers[b];
+    let m = t.mail;
+    let told = mail::received(m, r);
+    let u = Server { mail: told, ..t };
+    cluster::with_server(c, b, u)
+}
+
+// The record with server a as a step left it, and what it sends delivered.
+pub fn put_back(c: Cluster, a: usize, o: Stepped) -> Outcome
+    ensures { λ r. ⌜ r ≡ putBack c a o ⌝ }
+{
+    let s = o.server;
+    let sends = o.sends;
+    let answer = o.answer;
+    let d = cluster::with_server(c, a, s);
+    Outcome {
+        cluster: deliver(d, sends),
+        answer: answer,
     }
 }
 
@@ -68,13 +103,7 @@ pub fn single(c: Cluster, a: usize, step: Step) -> Outcome
         return steps::refuse_all(c, Refusal::OutOfRange);
     }
     let s = c.servers[a];
-    let o = one(s, s, step);
-    let t = o.server;
-    let answer = o.answer;
-    Outcome {
-        cluster: cluster::with_server(c, a, t),
-        answer: answer,
-    }
+    put_back(c, a, one(s, s, step))
 }
 
 // A step of server a that looks at server b.
@@ -93,13 +122,7 @@ pub fn pair(c: Cluster, a: usize, b: usize, step: Step) -> Outcome
     }
     let s = c.servers[a];
     let t = c.servers[b];
-    let o = one(s, t, step);
-    let u = o.server;
-    let answer = o.answer;
-    Outcome {
-        cluster: cluster::with_server(c, a, u),
-        answer: answer,
-    }
+    put_back(c, a, one(s, t, step))
 }
 
 // The step on a record that is not looked at. Here the servers' numbers of a step are widened.
@@ -129,6 +152,7 @@ pub fn core(c: Cluster, step: Step) -> Outcome
         Step::ClocksAgree => clocks_agree(c),
         Step::WritesNothing(a) => single(c, a as usize, step),
         Step::NewestRead(a, _, _, _) => single(c, a as usize, step),
+        Step::TakesReport(a) => single(c, a as usize, step),
     }
 }
 

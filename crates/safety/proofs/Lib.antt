@@ -6,6 +6,7 @@ pub mod Time
 pub mod Leads
 pub mod Inv
 pub mod Moves
+pub mod Acked
 pub mod Quiet
 pub mod Passes
 pub mod Elects
@@ -20,6 +21,7 @@ pub mod SeenQuiet
 pub mod SeenTakes
 pub mod SeenWrites
 pub mod SeenMajorities
+pub mod SeenTold
 pub mod Stepped
 pub mod Answered
 pub mod Promise
@@ -27,3 +29,4 @@ pub mod SeenNewest
 pub mod Newest
 pub mod Example
 pub mod NewestExample
+pub mod StaleExample

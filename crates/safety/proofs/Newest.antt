@@ -23,7 +23,7 @@ use Rattle.cluster.specs.Servers.{fewestServers, mostServers, serverAt, freshCl
 use Rattle.steps.specs.declared.Step.the-variants.{WritesNothing}
 use Rattle.safety.specs.Steps.{Walk}
 use Rattle.safety.specs.NewestSeen.{NewestSeen}
-use Rattle.safety.specs.View.{view}
+use Rattle.safety.specs.View.{view, seenCluster}
 use Rattle.safety.specs.Promise.{entryOf, firstOf}
 use Rattle.safety.specs.Newest.{Reading, NoneFor, NewestValue, last-of-those, of-a-newer, TakenIn, NewestRun, momentIn, askedIn, readIn, NewestPromise, NewestPromised}
 use Rattle.safety.proofs.Quorum.{majorities}
@@ -69,7 +69,7 @@ module _ {y : Cluster} {r : Reading} (read : Read y r) (long : r .position ≤ l
 
 -- a is asked in x, w is any moment up to x, and r is read in the later y
 module _ {n : ℕ} {some : 0 < n} {w x y : Cluster} (W : Now n some w) (Y : Now n some y)
-    (wx : Walk (majorities n some) (view w) (view x)) (xy : Walk (majorities n some) (view x) (view y))
+    (wx : Walk (majorities n some) (seenCluster w) (seenCluster x)) (xy : Walk (majorities n some) (seenCluster x) (seenCluster y))
     {a : ℕ} {r : Reading} (asked : Asked x a r) (read : Read y r) where
   seen : (s k : ℕ) → k ≤ serverAt w s .head .commit → NewestSeen (view w) (view x) (view y) a (r .server) s k
   seen s k cov =

@@ -12,7 +12,7 @@ use Rattle.log.specs.Logs.{mayAsk}
 use Rattle.cluster.specs.declared.Cluster.{Cluster}
 use Rattle.cluster.specs.Servers.{serverAt, freshCluster}
 use Rattle.steps.specs.declared.Step.{Step}
-use Rattle.steps.specs.declared.Step.the-variants.{Elect, Pulls, Writes, Advances, WritesNothing, NewestRead}
+use Rattle.steps.specs.declared.Step.the-variants.{Elect, Pulls, Writes, Advances, WritesNothing, NewestRead, TakesReport}
 use Rattle.steps.specs.declared.Answer.the-variants.{Entry, Value, Refused}
 use Rattle.steps.specs.declared.Refusal.the-variants.{ConditionUnmet, NotYet}
 use Rattle.rules.specs.Rules.{stepOf}
@@ -27,12 +27,12 @@ second = record { p = 1; l = 1 }
 -- ---- a read that shows what an older primary covered
 
 -- build 41 is covered under server 0, as in `Example`; server 1 wins term 2 and is asked to write nothing; server 2 pulls that and
--- server 1's commit point covers it
+-- reports, and server 1's commit point covers it
 abbrev on : List Step
 on = Elect 1 6 ∷ []
 
 abbrev after : List Step
-after = Pulls 2 1 ∷ Advances 1 ∷ []
+after = Pulls 2 1 ∷ TakesReport 1 ∷ Advances 1 ∷ []
 
 -- key 5 is asked for at server 1
 abbrev reading : Reading
@@ -55,7 +55,7 @@ run =
       steps-until = steps-until;
       steps-on = (omega arith, other-kind, tt);
       asked = refl;
-      steps-after = (omega arith, other-kind, (omega arith, other-kind, tt));
+      steps-after = (omega arith, other-kind, (omega arith, other-kind, (omega arith, other-kind, tt)));
       answered = refl;
     }
 
@@ -65,9 +65,9 @@ taken-in = newest-read 3 (omega arith) (omega arith) run .taken-in 0 1 (omega ar
 
 -- ---- a primary that has been overtaken
 
--- server 0 wins term 1, server 1 term 2; server 1 writes build 42, server 2 pulls it, and server 1's commit point covers it
+-- server 0 wins term 1, server 1 term 2; server 1 writes build 42, server 2 pulls it and reports, and server 1's commit point covers it
 abbrev overtaken : List Step
-overtaken = Elect 0 3 ∷ Elect 1 6 ∷ Writes 1 5 42 ∷ Pulls 2 1 ∷ Advances 1 ∷ []
+overtaken = Elect 0 3 ∷ Elect 1 6 ∷ Writes 1 5 42 ∷ Pulls 2 1 ∷ TakesReport 1 ∷ Advances 1 ∷ []
 
 pub behind : Cluster
 unfolding moment mayAsk hasEntry
@@ -105,7 +105,7 @@ never-answered after h q key v t e = omega (arith, newest-read 3 (omega arith) (
           after = after;
           read = record { server = q; key = key; position = 1; term = 1; value = v; time = t };
           time = record { p = 1; l = 0 };
-          steps-until = (omega arith, other-kind, (omega arith, other-kind, (omega arith, other-kind, (omega arith, other-kind, (omega arith, other-kind, tt)))));
+          steps-until = (omega arith, other-kind, (omega arith, other-kind, (omega arith, other-kind, (omega arith, other-kind, (omega arith, other-kind, (omega arith, other-kind, tt))))));
           steps-on = tt;
           asked = refl;
           steps-after = h;

@@ -31,7 +31,7 @@ use Rattle.safety.specs.Cluster.{Holds}
 use Rattle.safety.specs.Steps.{Walk, stop, go}
 use Rattle.safety.specs.Demand3.{LastFor, Demand3}
 use Rattle.safety.specs.Time.{stamp}
-use Rattle.safety.specs.View.{seenServer, view}
+use Rattle.safety.specs.View.{seenServer, view, seenCluster}
 use Rattle.safety.specs.Promise.{runOf, StepsFrom, Never9, entryOf, firstOf, holds, Shows, Kept, momentOf, Promised}
 use Rattle.safety.proofs.Quorum.{majorities, majority-count}
 use Rattle.safety.proofs.Time.{stamp-before, not-before-stamp}
@@ -69,7 +69,7 @@ answered c q key asked v t a =
 
 -- ---- what is covered once
 
-module _ {n : ℕ} {some : 0 < n} {x y : Cluster} (X : Now n some x) (Y : Now n some y) (w : Walk (majorities n some) (view x) (view y))
+module _ {n : ℕ} {some : 0 < n} {x y : Cluster} (X : Now n some x) (Y : Now n some y) (w : Walk (majorities n some) (seenCluster x) (seenCluster y))
     (s k : ℕ) (hs : s < n) (one : 1 ≤ k) (cov : k ≤ serverAt x s .head .commit) where
   log-x : FitsLog (serverAt x s .log)
   log-x = X .fits .each s (omega (arith, X .few)) .log
@@ -121,7 +121,7 @@ module _ {n : ℕ} {some : 0 < n} {x y : Cluster} (X : Now n some x) (Y : Now n 
 -- what steps lead to, and that none of them got refusal 9
 pub record Ran (n : ℕ) (some : 0 < n) (c : Cluster) (r : List Step) : Type 0 where
   pub now : Now n some (runOf c r)
-  pub walk : Walk (majorities n some) (view c) (view (runOf c r))
+  pub walk : Walk (majorities n some) (seenCluster c) (seenCluster (runOf c r))
   pub never : Never9 c r
 
 pub ran : {n : ℕ} {some : 0 < n} (c : Cluster) → Now n some c → (r : List Step) → StepsFrom c r → Ran n some c r
@@ -132,10 +132,10 @@ ran {n} {some} c N (s ∷ r) h =
       fits = step-fits c s (N .fits) (h .0);
       counted = X .counted ∙ N .counted;
       few = N .few;
-      walk = go (N .walk) (X .goes);
+      walk = go (N .walk) (X .step);
     } in
     let R = ran (stepOf c s .cluster) M r (h .2) in
-    record { now = R .now; walk = walk-on (go stop (X .goes)) (R .walk); never = (never-9 N s, R .never) }
+    record { now = R .now; walk = walk-on (go stop (X .step)) (R .walk); never = (never-9 N s, R .never) }
 
 pub begun : (n : ℕ) (some : 0 < n) → n ≤ mostServers → Now n some (freshCluster n)
 begun n some seven = record { fits = fits-fresh n seven; counted = refl; few = seven; walk = stop }

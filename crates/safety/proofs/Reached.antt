@@ -8,12 +8,14 @@ use native.Mathlib.Nat.{not-suc-le-zero}
 use native.Mathlib.Omega.{arith}
 use Rattle.safety.specs.Quorum.{Quorums}
 use Rattle.safety.specs.Cluster.{root, Seen}
-use Rattle.safety.specs.Steps.{Goes, elects, writes, takes, quiet, passes, Fresh, Walk, stop, go}
+use Rattle.safety.specs.Told.{Told, ClusterSeen}
+use Rattle.safety.specs.Steps.{Goes, elects, writes, takes, quiet, passes, StepSeen, FreshServers, Fresh, Walk, stop, go}
 use Rattle.safety.proofs.Leads.{Leads, Grown, grown-refl, grown-trans}
 use Rattle.safety.proofs.Inv.{Acks, Onward, Inv, onward-trans}
 use Rattle.safety.proofs.Moves.{rests-refl, rests-onward}
 use Rattle.safety.proofs.Quiet.{quiet-inv}
-use Rattle.safety.proofs.Passes.{acked-grow, acked-own, passes-rests, passes-inv}
+use Rattle.safety.proofs.Acked.{acked, acked-grow, acked-own, acked-inv, Vouched, acked-vouched}
+use Rattle.safety.proofs.Passes.{passes-rests, passes-inv}
 use Rattle.safety.proofs.Elects.{elects-inv, elects-grown, elects-onward}
 use Rattle.safety.proofs.Writes.{writes-inv, writes-grown, writes-onward}
 use Rattle.safety.proofs.Takes.{takes-inv, takes-onward}
@@ -23,6 +25,11 @@ pub record Known (𝓠 : Quorums) (v : Seen) : Type 0 where
   pub leads : Leads
   pub ack : Acks
   pub inv : Inv 𝓠 v leads ack
+
+-- and with what was told
+pub record KnownAll (𝓠 : Quorums) (x : ClusterSeen) : Type 0 where
+  pub known : Known 𝓠 (x .servers)
+  pub vouched : Vouched (x .told) (x .servers) (known .ack)
 
 -- what was led or acknowledged stays so, and a server that has left a term acknowledges nothing more in it
 pub record Later {𝓠 : Quorums} {v v′ : Seen} (K : Known 𝓠 v) (K′ : Known 𝓠 v′) : Type 0 where
@@ -41,7 +48,7 @@ first-only : (u n : ℕ) → n < first u → (u ≡ 0) × (n ≡ 0)
 first-only zero n h = (refl, omega arith)
 first-only (suc u) n h = absurd (not-suc-le-zero h)
 
-module _ (𝓠 : Quorums) {v : Seen} (f : Fresh v) where
+module _ (𝓠 : Quorums) {v : Seen} (f : FreshServers v) where
   no-primary : (i : ℕ) → v i .primary ≡ true → ⊥
   no-primary i p = let q : false ≡ true = sym (f .role i) ∙ p in let z : _≡_ {A = ℕ} 0 1 = cc in omega arith
 
@@ -78,9 +85,21 @@ module _ (𝓠 : Quorums) {v : Seen} (f : Fresh v) where
       base : 𝓠 .Most (λ i. 0 < first 0)
       base = 𝓠 .more _ _ (λ j x. omega arith) (𝓠 .all)
 
+fresh-all : (𝓠 : Quorums) {x : ClusterSeen} → Fresh x → KnownAll 𝓠 x
+unfolding fresh-known
+fresh-all 𝓠 f =
+    record {
+      known = fresh-known 𝓠 (f .servers);
+      vouched =
+          record {
+            now = λ i t h. rw (← h .0, f .servers .term i, f .servers .len i) (omega arith);
+            said = λ i t n s. absurd (omega (arith, s .says .long, s .says .some, f .told (s .place)));
+          };
+    }
+
 -- ---- each step and each walk
 
-abbrev pub Next : {𝓠 : Quorums} {v : Seen} → Known 𝓠 v → Seen → Type 0
+abbrev Next : {𝓠 : Quorums} {v : Seen} → Known 𝓠 v → Seen → Type 0
 Next {𝓠} K v′ = (K′ : Known 𝓠 v′) × Later K K′
 
 later-leads : {𝓠 : Quorums} {v v′ : Seen} (K : Known 𝓠 v) {g : Leads} → Grown (K .leads) g → Onward (K .leads) v v′ → Inv 𝓠 v′ g (K .ack)
@@ -89,6 +108,9 @@ later-leads K w o i = (
   record { leads = _; ack = K .ack; inv = i },
   record { grown = w; onward = o; acks = λ i t. omega arith; frozen = λ i t h. omega arith },
 )
+
+later-refl : {𝓠 : Quorums} {v : Seen} {K : Known 𝓠 v} → Later K K
+later-refl = record { grown = grown-refl; onward = rests-onward (λ i. rests-refl); acks = λ i t. omega arith; frozen = λ i t h. omega arith }
 
 later-trans : {𝓠 : Quorums} {v v′ v″ : Seen} {K : Known 𝓠 v} {K′ : Known 𝓠 v′} {K″ : Known 𝓠 v″} → Later K K′ → Later K′ K″ → Later K K″
 later-trans p q =
@@ -99,27 +121,41 @@ later-trans p q =
       frozen = λ i t h. omega (arith, p .frozen i t h, q .frozen i t (omega (arith, p .onward .raised i)));
     }
 
-goes-known : {𝓠 : Quorums} {v v′ : Seen} (K : Known 𝓠 v) → Goes 𝓠 v v′ → Next K v′
-goes-known K (elects a m h) = later-leads K (elects-grown (K .inv) h) (elects-onward (K .inv) h) (elects-inv (K .inv) h)
-goes-known K (writes a e h) = later-leads K (writes-grown (K .inv) h) (writes-onward (K .inv) h) (writes-inv (K .inv) h)
-goes-known K (takes a b h) = later-leads K grown-refl (takes-onward (K .inv) h) (takes-inv (K .inv) h)
-goes-known K (quiet h) = later-leads K grown-refl (rests-onward (λ i. h i .rests)) (quiet-inv (K .inv) h)
-goes-known {v = v} K (passes a n h) = (
-  record { leads = K .leads; ack = _; inv = passes-inv (K .inv) h },
+goes-known : {𝓠 : Quorums} {m : Told} {v v′ : Seen} (K : Known 𝓠 v) → Vouched m v (K .ack) → Goes 𝓠 m v v′ → Next K v′
+goes-known K k (elects a m h) = later-leads K (elects-grown (K .inv) h) (elects-onward (K .inv) h) (elects-inv (K .inv) h)
+goes-known K k (writes a e h) = later-leads K (writes-grown (K .inv) h) (writes-onward (K .inv) h) (writes-inv (K .inv) h)
+goes-known K k (takes a b h) = later-leads K grown-refl (takes-onward (K .inv) h) (takes-inv (K .inv) h)
+goes-known K k (quiet h) = later-leads K grown-refl (rests-onward (λ i. h i .rests)) (quiet-inv (K .inv) h)
+goes-known K k (passes a n h) = later-leads K grown-refl (rests-onward (passes-rests (K .inv) k h)) (passes-inv (K .inv) k h)
+
+-- then every server acknowledges what it has
+acked-known : {𝓠 : Quorums} {v : Seen} (K : Known 𝓠 v) → Next K v
+acked-known {v = v} K = (
+  record { leads = K .leads; ack = acked v (K .ack); inv = acked-inv (K .inv) },
   record {
     grown = grown-refl;
-    onward = rests-onward (passes-rests (K .inv) h);
+    onward = rests-onward (λ i. rests-refl);
     acks = acked-grow v (K .ack);
     frozen = λ i t l. ⊎-elim (λ x. x) (λ x. absurd (omega arith)) (acked-own v (K .ack) i t);
   },
 )
 
-pub walk-known : {𝓠 : Quorums} {v v′ : Seen} (K : Known 𝓠 v) → Walk 𝓠 v v′ → Next K v′
-walk-known K stop = later-leads K grown-refl (rests-onward (λ i. rests-refl)) (K .inv)
-walk-known K (go w h) =
+abbrev pub NextAll : {𝓠 : Quorums} {x : ClusterSeen} → KnownAll 𝓠 x → ClusterSeen → Type 0
+NextAll {𝓠} K y = (K′ : KnownAll 𝓠 y) × Later (K .known) (K′ .known)
+
+step-known : {𝓠 : Quorums} {x y : ClusterSeen} (K : KnownAll 𝓠 x) → StepSeen 𝓠 x y → NextAll K y
+unfolding acked-known
+step-known K s =
+    let n = goes-known (K .known) (K .vouched) (s .goes) in
+    let a = acked-known (n .0) in
+    (record { known = a .0; vouched = acked-vouched (K .vouched) (n .1 .acks) (s .tells) }, later-trans (n .1) (a .1))
+
+pub walk-known : {𝓠 : Quorums} {x y : ClusterSeen} (K : KnownAll 𝓠 x) → Walk 𝓠 x y → NextAll K y
+walk-known K stop = (K, later-refl)
+walk-known K (go w s) =
     let x = walk-known K w in
-    let y = goes-known (x .0) h in
+    let y = step-known (x .0) s in
     (y .0, later-trans (x .1) (y .1))
 
-pub reached : {𝓠 : Quorums} {u v : Seen} → Fresh u → Walk 𝓠 u v → Known 𝓠 v
-reached {𝓠} f w = walk-known (fresh-known 𝓠 f) w .0
+pub reached : {𝓠 : Quorums} {x y : ClusterSeen} → Fresh x → Walk 𝓠 x y → KnownAll 𝓠 y
+reached {𝓠} f w = walk-known (fresh-all 𝓠 f) w .0

@@ -1,4 +1,4 @@
--- Kinds 1 and 7 as the view shows them: a majority elects a primary, and a majority backs a position.
+-- Kinds 1 and 7 as the view shows them: a majority elects a primary, and a majority backs a position by what it told.
 -- Assumes nothing.
 use mathlib.Core.Path.{_≡_, refl, ap, sym, _∙_, subst}
 use mathlib.Core.Bool.{Bool, true, false, not, _&&_, _||_}
@@ -12,7 +12,8 @@ use Rattle.base.proofs.Every.{every-at}
 use Rattle.base.proofs.Highest.{highest-passes}
 use Rattle.log.specs.Entries.{entryAt, lastTerm}
 use Rattle.log.specs.Logs.{live, lengthOf}
-use Rattle.log.proofs.Equal.{equal-at}
+use Rattle.mail.specs.declared.Note.{Note}
+use Rattle.mail.specs.Mails.{noteAt}
 use Rattle.cluster.specs.declared.Server.{Server}
 use Rattle.cluster.specs.declared.Cluster.{Cluster}
 use Rattle.cluster.specs.Ranges.{Fits}
@@ -20,15 +21,19 @@ use Rattle.cluster.specs.Servers.{serverCount, serverAt, votedOf, electedAll}
 use Rattle.cluster.specs.Sets.{member, bits, mostOf}
 use Rattle.cluster.proofs.Changed.{changed-at}
 use Rattle.cluster.proofs.Masks.{within-member, within-count}
+use Rattle.steps.specs.declared.Sends.the-variants.{Nothing}
+use Rattle.steps.specs.declared.Stepped.{Stepped}
+use Rattle.steps.specs.declared.Answer.the-variants.{Reached}
 use Rattle.steps.specs.declared.Step.the-variants.{Elect, Advances}
 use Rattle.wholes.specs.Elects.{notBehind, mayVote, allMayVote, newTerm}
 use Rattle.counts.specs.Advances.{backs, backers, passes, highestPassing, committedOf}
-use Rattle.rules.specs.Rules.{rowOf}
+use Rattle.rules.specs.Rules.{delivered, rowOf}
 use Rattle.safety.specs.Quorum.{Quorums, Majority}
 use Rattle.safety.specs.Cluster.{ServerSeen, NotBehind}
-use Rattle.safety.specs.Steps.{Voted, Backs, elects}
+use Rattle.safety.specs.Told.{note}
+use Rattle.safety.specs.Steps.{Voted, Counts, itself, reported, elects}
 use Rattle.safety.specs.Steps as T
-use Rattle.safety.specs.View.{seenEntry, seenServer, view}
+use Rattle.safety.specs.View.{seenServer, view, toldIn}
 use Rattle.safety.proofs.Views.{here, others, changed-view}
 use Rattle.safety.proofs.SeenQuiet.{Sees}
 
@@ -66,24 +71,48 @@ module _ (a m t i : ℕ) (s : Server) where
 
 -- ---- kind 7
 
-backing : (s t : Server) (n : ℕ) → backs s n t ≡ true → Backs (seenServer s) n (seenServer t)
+-- a counts itself, and whom its note says enough of
+backing : (c : Cluster) (a n i : ℕ) → 1 ≤ n → backs (serverAt c a) a n i ≡ true → Counts (toldIn c) (view c) a n i
 unfolding backs
-backing s t n e =
-    let q = equal-at _ _ n (and-right (eqb (t .head .term) (s .head .term)) _ e) in
-    record { term = eqb-true (t .head .term) (s .head .term) (and-left _ _ e); within = q .left; entry = ap seenEntry (q .same) }
+backing c a n i some e = go (or-cases (eqb i a) _ e)
+  where
+    t : ℕ
+    t = serverAt c a .head .term
+
+    d : Note
+    d = noteAt (serverAt c a .mail) i
+
+    go : (eqb i a ≡ true) ⊎ ((eqb (d .term) t && (eqb (d .last) t && leb n (d .len))) ≡ true) → Counts (toldIn c) (view c) a n i
+    go (inl h) = itself (eqb-true i a h)
+    go (inr h) =
+        let r = and-right (eqb (d .term) t) _ h in
+        reported
+        (record {
+          place = note a i;
+          says =
+              record {
+                who = refl;
+                term = eqb-true (d .term) t (and-left _ _ h);
+                last = eqb-true (d .last) t (and-left _ _ r);
+                long = leb-true n (d .len) (and-right (eqb (d .last) t) _ r);
+                some = some;
+              };
+        })
 
 -- a position that passes, as facts
-record Passing (c : Cluster) (s : Server) (n : ℕ) : Type 0 where
+record Passing (size : ℕ) (s : Server) (a n : ℕ) : Type 0 where
+  above : 1 ≤ n
   within : n ≤ lengthOf (s .log)
   current : entryAt (live (s .log)) n .term ≡ s .head .term
-  enough : mostOf (serverCount c) (backers c s n) ≡ true
+  enough : mostOf size (backers size s a n) ≡ true
 
-passing : {c : Cluster} {s : Server} {n : ℕ} → passes c s n ≡ true → Passing c s n
+passing : {size : ℕ} {s : Server} {a n : ℕ} → passes size s a n ≡ true → Passing size s a n
 unfolding passes
-passing {c} {s} {n} e =
+passing {s = s} {n = n} e =
     let r = and-right (ltb (s .head .commit) n) _ e in
     let q = and-right (leb n (lengthOf (s .log))) _ r in
     record {
+      above = omega (arith, ltb-true (s .head .commit) n (and-left _ _ e));
       within = leb-true n (lengthOf (s .log)) (and-left _ _ r);
       current = eqb-true (entryAt (live (s .log)) n .term) (s .head .term) (and-left _ _ q);
       enough = and-right (eqb (entryAt (live (s .log)) n .term) (s .head .term)) _ q;
@@ -123,20 +152,21 @@ module _ {𝓠 : Quorums} (c : Cluster) (f : Fits c) (most : (P : ℕ → Type 0
       changed i e = changed-at (votedOf a m (newTerm c a)) c i (omega (arith, below i e, f .slots))
 
   pub sees-advance : (a : ℕ) → Sees 𝓠 c (Advances a)
-  unfolding rowOf highestPassing
+  unfolding rowOf highestPassing delivered
   sees-advance a h =
       let s = serverAt c a in
-      let n = highestPassing c s in
-      let p = passing (highest-passes (passes c s) (lengthOf (s .log)) (leb-true 1 n (h .1 .1 .0))) in
-      let q = here c f a (h .0) (committedOf s n) in
+      let n = highestPassing (serverCount c) s a in
+      let p = passing (highest-passes (passes (serverCount c) s a) (lengthOf (s .log)) (leb-true 1 n (h .1 .1 .0))) in
+      let o : Stepped = record { server = committedOf s n; answer = Reached n; sends = Nothing } in
+      let q = here c f a (h .0) o in
       T.passes a n
       (record {
         within = p .within;
         current = p .current;
-        quorum = most _ (record { members = λ i. backs s n (serverAt c i); enough = p .enough; hold = λ i l e. backing s (serverAt c i) n e });
+        quorum = most _ (record { members = backs s a n; enough = p .enough; hold = λ i l e. backing c a n i (p .above) e });
         keeps = record { len = ap (λ (x : ServerSeen). x .len) q; log = ap (λ (x : ServerSeen). x .log) q };
         term = ap (λ (x : ServerSeen). x .term) q;
         role = ap (λ (x : ServerSeen). x .primary) q;
         commit = ap (λ (x : ServerSeen). x .commit) q;
-        others = others c f a (h .0) (committedOf s n);
+        others = others c f a (h .0) o;
       })

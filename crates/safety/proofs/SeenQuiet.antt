@@ -1,4 +1,4 @@
--- Kinds 2, 3, 8 to 13 and 15 as the view shows them: no log changes, and a commit point stays, is lost or is heard.
+-- Kinds 2, 3, 8 to 13, 15 and 16 as the view shows them: no log changes, and a commit point stays, is lost or is heard.
 -- Assumes nothing.
 use mathlib.Core.Path.{_≡_, refl, ap}
 use mathlib.Core.Bool.{Bool, true, false, cond}
@@ -12,26 +12,31 @@ use Rattle.log.proofs.Equal.{equal-at}
 use Rattle.cluster.specs.declared.Server.{Server}
 use Rattle.cluster.specs.declared.Cluster.{Cluster}
 use Rattle.cluster.specs.Ranges.{Fits}
-use Rattle.cluster.specs.Servers.{withWall, withHead, serverCount, serverAt, withServer, clockedOf}
+use Rattle.cluster.specs.Servers.{withWall, withHead, serverCount, serverAt, clockedOf}
 use Rattle.steps.specs.declared.Step.{Step}
-use Rattle.steps.specs.declared.Step.the-variants.{StepDown, Hears, WallClock, Restarts, LocalRead, MajorityRead, Acknowledged, ClocksAgree, NewestRead}
+use Rattle.steps.specs.declared.Step.the-variants.{StepDown, Hears, WallClock, Restarts, LocalRead, MajorityRead, Acknowledged, ClocksAgree, NewestRead, TakesReport}
+use Rattle.steps.specs.declared.Stepped.{Stepped}
 use Rattle.steps.specs.Reasons.{Clear}
-use Rattle.pairs.specs.Hears.{takesCommit, heardOf}
+use Rattle.pairs.specs.Hears.{takesCommit, heardOf, hearsOf}
 use Rattle.singles.specs.StepsDown.{downDone}
 use Rattle.singles.specs.WallClock.{clockDone}
-use Rattle.singles.specs.Restarts.{restartedOf}
+use Rattle.singles.specs.Restarts.{restartsOf}
+use Rattle.singles.specs.LocalRead.{localDone}
+use Rattle.singles.specs.MajorityRead.{majorityDone}
+use Rattle.singles.specs.NewestRead.{newestDone}
+use Rattle.singles.specs.TakesReport.{takeDone}
 use Rattle.wholes.specs.ClocksAgree.{greatestClock}
-use Rattle.rules.specs.Rules.{rowOf, rulesOf, doneOf}
+use Rattle.rules.specs.Rules.{putBack, rowOf, rulesOf, doneOf}
 use Rattle.safety.specs.Quorum.{Quorums}
 use Rattle.safety.specs.Cluster.{ServerSeen}
 use Rattle.safety.specs.Steps.{Settles, stays, restarts, hears, Rests, Goes}
-use Rattle.safety.specs.View.{seenEntry, seenServer, view}
+use Rattle.safety.specs.View.{seenEntry, seenServer, view, toldIn}
 use Rattle.safety.proofs.Joins.{alone, unchanged}
 use Rattle.safety.proofs.Views.{here, others, not-shown, changed-view}
 
--- a step whose rules are clear is a step of the theory
+-- a step whose rules are clear is one of the theory
 abbrev pub Sees : Quorums → Cluster → Step → Type 0
-Sees 𝓠 c s = Clear (rulesOf c s) → Goes 𝓠 (view c) (view (doneOf c s .cluster))
+Sees 𝓠 c s = Clear (rulesOf c s) → Goes 𝓠 (toldIn c) (view c) (view (doneOf c s .cluster))
 
 -- the wall clock is not seen
 clocked-seen : (n w i : ℕ) (s : Server) → seenServer (clockedOf n w i s) ≡ seenServer s
@@ -69,38 +74,42 @@ lowered : (r : ServerSeen) (k : ℕ) → Rests r (record { len = r .len; log = r
 lowered r k = record { keeps = record { len = refl; log = refl }; raised = omega arith; role = λ p. not-both false p refl; unraised = λ p. refl }
 
 module _ {𝓠 : Quorums} (c : Cluster) (f : Fits c) where
-  quietly : (a : ℕ) → ltb a (serverCount c) ≡ true → (s : Server) → Rests (view c a) (seenServer s) → Settles (view c) a (s .head .commit)
-      → Goes 𝓠 (view c) (view (withServer c a s))
-  quietly a l s r t = alone (others c f a l s) (rw (here c f a l s) (record { rests = r; settles = t }))
+  quietly : (a : ℕ) → ltb a (serverCount c) ≡ true → (o : Stepped) → Rests (view c a) (seenServer (o .server))
+      → Settles (view c) a (o .server .head .commit) → Goes 𝓠 (toldIn c) (view c) (view (putBack c a o .cluster))
+  quietly a l o r t = alone (others c f a l o) (rw (here c f a l o) (record { rests = r; settles = t }))
 
   pub sees-down : (a : ℕ) → Sees 𝓠 c (StepDown a)
   unfolding rowOf
-  sees-down a h = quietly a (h .0) (downDone (serverAt c a) .server) (lowered (view c a) (view c a .commit)) (stays refl)
+  sees-down a h = quietly a (h .0) (downDone (serverAt c a)) (lowered (view c a) (view c a .commit)) (stays refl)
 
   pub sees-restart : (a : ℕ) → Sees 𝓠 c (Restarts a)
   unfolding rowOf
-  sees-restart a h = quietly a (h .0) (restartedOf (serverAt c a)) (lowered (view c a) 0) (restarts refl)
+  sees-restart a h = quietly a (h .0) (restartsOf (serverAt c a)) (lowered (view c a) 0) (restarts refl)
 
   pub sees-hears : (a b : ℕ) → Sees 𝓠 c (Hears a b)
   unfolding rowOf
   sees-hears a b h =
-      quietly a (h .0) (heardOf (serverAt c a) (serverAt c b)) (heard-rests (serverAt c a) (serverAt c b)) (heard-settles c a b)
+      quietly a (h .0) (hearsOf (serverAt c a) (serverAt c b)) (heard-rests (serverAt c a) (serverAt c b)) (heard-settles c a b)
 
   pub sees-clock : (a : ℕ) → Sees 𝓠 c (WallClock a)
   unfolding rowOf
-  sees-clock a h = not-shown c f a (h .0) (clockDone (serverAt c a) .server) refl
+  sees-clock a h = not-shown c f a (h .0) (clockDone (serverAt c a)) refl
 
   pub sees-local : (a key : ℕ) (asked : Time) → Sees 𝓠 c (LocalRead a key asked)
   unfolding rowOf
-  sees-local a key asked h = not-shown c f a (h .0) (serverAt c a) refl
+  sees-local a key asked h = not-shown c f a (h .0) (localDone (serverAt c a) key) refl
 
   pub sees-majority : (a key : ℕ) (asked : Time) → Sees 𝓠 c (MajorityRead a key asked)
   unfolding rowOf
-  sees-majority a key asked h = not-shown c f a (h .0) (serverAt c a) refl
+  sees-majority a key asked h = not-shown c f a (h .0) (majorityDone (serverAt c a) key) refl
 
   pub sees-newest : (a key n term : ℕ) → Sees 𝓠 c (NewestRead a key n term)
   unfolding rowOf
-  sees-newest a key n term h = not-shown c f a (h .0) (serverAt c a) refl
+  sees-newest a key n term h = not-shown c f a (h .0) (newestDone (serverAt c a) key n) refl
+
+  pub sees-take : (a : ℕ) → Sees 𝓠 c (TakesReport a)
+  unfolding rowOf
+  sees-take a h = not-shown c f a (h .0) (takeDone (serverAt c a)) refl
 
 pub sees-acknowledged : {𝓠 : Quorums} (c : Cluster) (a k n term : ℕ) → Sees 𝓠 c (Acknowledged a k n term)
 unfolding rowOf

@@ -21,18 +21,20 @@ use Rattle.log.proofs.Tidy.{Tidy, tidy-length, live-joined}
 use Rattle.cluster.specs.declared.Server.{Server}
 use Rattle.cluster.specs.declared.Cluster.{Cluster}
 use Rattle.cluster.specs.Ranges.{Fits}
-use Rattle.cluster.specs.Servers.{serverCount, serverAt, withServer}
+use Rattle.cluster.specs.Servers.{serverCount, serverAt}
 use Rattle.cluster.proofs.Good.{Good}
 use Rattle.steps.specs.declared.Step.the-variants.{Pulls, RollsBack}
 use Rattle.steps.specs.declared.Refusal.the-variants.{BelowCommitPoint}
 use Rattle.steps.specs.Reasons.{Broken, later, here as broken-here}
+use Rattle.pairs.specs.Reports.{sentOf}
 use Rattle.pairs.specs.Pulls.{tookOf}
 use Rattle.pairs.specs.RollsBack.{common, rollRules}
-use Rattle.rules.specs.Rules.{rowOf, bothInRange}
+use Rattle.rules.specs.Rules.{bothInRange, putBack, rowOf}
 use Rattle.safety.specs.Quorum.{Quorums}
-use Rattle.safety.specs.Cluster.{Agree, ServerSeen, Seen}
+use Rattle.safety.specs.Cluster.{Agree, ServerSeen}
+use Rattle.safety.specs.Told.{ClusterSeen}
 use Rattle.safety.specs.Steps.{Copies, pulls, rollsBack, Goes, takes, Fresh, Walk}
-use Rattle.safety.specs.View.{seenEntry, seenServer, view}
+use Rattle.safety.specs.View.{seenEntry, seenServer, view, toldIn, seenCluster}
 use Rattle.safety.proofs.Joins.{pulled, no-refusal-9}
 use Rattle.safety.proofs.Views.{in-range, here, others, holds-common}
 use Rattle.safety.proofs.SeenQuiet.{Sees}
@@ -43,11 +45,11 @@ tidy-at c g a l = g .counted a (omega (arith, ltb-true a (serverCount c) l)) .lo
 -- a takes a log that looks like b's
 took : {𝓠 : Quorums} (c : Cluster) → Fits c → (a b : ℕ) → ltb a (serverCount c) ≡ true → serverAt c a .head .primary ≡ false → (g : Log)
     → Copies (view c a) (view c b) → lengthOf g ≡ view c b .len → Agree (view c b .len) (λ n. seenEntry (entryAt (live g) n)) (view c b .log)
-    → Goes 𝓠 (view c) (view (withServer c a (tookOf (serverAt c a) (serverAt c b) g)))
+    → Goes 𝓠 (toldIn c) (view c) (view (putBack c a (sentOf a b (tookOf (serverAt c a) (serverAt c b) g)) .cluster))
 unfolding tookOf
 took c f a b l secondary g may len log =
-    let s = tookOf (serverAt c a) (serverAt c b) g in
-    let h = here c f a l s in
+    let o = sentOf a b (tookOf (serverAt c a) (serverAt c b) g) in
+    let h = here c f a l o in
     takes a b
     (record {
       may = may;
@@ -57,7 +59,7 @@ took c f a b l secondary g may len log =
       term = ap (λ (x : ServerSeen). x .term) h;
       role = ap (λ (x : ServerSeen). x .primary) h;
       commit = ap (λ (x : ServerSeen). x .commit) h;
-      others = others c f a l s;
+      others = others c f a l o;
     })
 
 -- an empty log's last entry is the root, as is everybody's entry at 0
@@ -83,7 +85,7 @@ sees-roll c f a b h =
     (rollsBack (ltb-true _ _ (r .1 .1 .0))) (ap (λ (g : Log). lengthOf g) e)
     (λ n l. ap (λ (g : Log). seenEntry (entryAt (live g) n)) e)
 
-module _ {𝓠 : Quorums} {u : Seen} (c : Cluster) (f : Fits c) (g : Good c) (start : Fresh u) (w : Walk 𝓠 u (view c)) where
+module _ {𝓠 : Quorums} {u : ClusterSeen} (c : Cluster) (f : Fits c) (g : Good c) (start : Fresh u) (w : Walk 𝓠 u (seenCluster c)) where
   pub sees-pull : (a b : ℕ) → Sees 𝓠 c (Pulls a b)
   unfolding rowOf
   sees-pull a b h =

@@ -20,18 +20,18 @@ use Rattle.log.proofs.Tidy.{tidy-length, live-appended}
 use Rattle.cluster.specs.declared.Server.{Server}
 use Rattle.cluster.specs.declared.Cluster.{Cluster}
 use Rattle.cluster.specs.Ranges.{Fits, FitsServer}
-use Rattle.cluster.specs.Servers.{serverCount, serverAt, withServer}
+use Rattle.cluster.specs.Servers.{serverCount, serverAt}
 use Rattle.cluster.proofs.Good.{Good, ServerGood}
 use Rattle.steps.specs.declared.Step.the-variants.{Writes, WritesNothing}
 use Rattle.steps.specs.Reasons.{Clear}
 use Rattle.singles.specs.Appends.{ticks, tickTime, appendRules, newEntry, stampedOf, appendDone}
-use Rattle.rules.specs.Rules.{rowOf}
+use Rattle.rules.specs.Rules.{putBack, rowOf}
 use Rattle.rules.proofs.Servers.{ticked-to}
 use Rattle.safety.specs.Quorum.{Quorums}
 use Rattle.safety.specs.Cluster.{ServerSeen}
 use Rattle.safety.specs.Steps.{writes, Goes}
 use Rattle.safety.specs.Time.{stamp}
-use Rattle.safety.specs.View.{seenEntry, view}
+use Rattle.safety.specs.View.{seenEntry, view, toldIn}
 use Rattle.safety.proofs.Time.{before-stamp}
 use Rattle.safety.proofs.Views.{in-range, here, others, fits-time}
 use Rattle.safety.proofs.SeenQuiet.{Sees}
@@ -52,7 +52,7 @@ roomy c g a e below r =
 
 -- a appends an entry, whatever its key and value
 append-seen : {𝓠 : Quorums} (c : Cluster) → Fits c → Good c → (a key value : ℕ) → ltb a (serverCount c) ≡ true → Clear (appendRules (serverAt c a))
-    → Goes 𝓠 (view c) (view (withServer c a (appendDone (serverAt c a) key value .server)))
+    → Goes 𝓠 (toldIn c) (view c) (view (putBack c a (appendDone (serverAt c a) key value) .cluster))
 unfolding stampedOf
 append-seen c f g a key value below r =
     let s = serverAt c a in
@@ -60,7 +60,8 @@ append-seen c f g a key value below r =
     let e = newEntry s key value t in
     let k = g .counted a (omega (arith, ltb-true a (serverCount c) below)) in
     let l = roomy c g a e below r in
-    let q = here c f a below (stampedOf s key value t) in
+    let o = appendDone s key value in
+    let q = here c f a below o in
     writes a (seenEntry e)
     (record {
       primary = r .0;
@@ -72,7 +73,7 @@ append-seen c f g a key value below r =
       term = ap (λ (x : ServerSeen). x .term) q;
       role = ap (λ (x : ServerSeen). x .primary) q;
       commit = ap (λ (x : ServerSeen). x .commit) q;
-      others = others c f a below (stampedOf s key value t);
+      others = others c f a below o;
     })
 
 pub sees-write : {𝓠 : Quorums} (c : Cluster) → Fits c → Good c → (a key value : ℕ) → Sees 𝓠 c (Writes a key value)

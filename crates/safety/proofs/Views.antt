@@ -1,6 +1,7 @@
--- Laws of the view: one server replaced, all servers changed, the fresh cluster, and what the view's entries say of the record's.
+-- Laws of the view: one server replaced, a report delivered, all servers changed, the fresh cluster, and what the view's entries say of the
+-- record's.
 -- Assumes nothing.
-use mathlib.Core.Path.{_≡_, refl, ap, sym, _∙_}
+use mathlib.Core.Path.{_≡_, refl, ap, sym, _∙_, subst}
 use mathlib.Core.Bool.{true}
 use mathlib.Core.List.{List}
 use mathlib.Core.Logic.{⊎-elim, by-cases}
@@ -25,13 +26,25 @@ use Rattle.log.proofs.Positions.{same-first}
 use Rattle.cluster.specs.declared.Server.{Server}
 use Rattle.cluster.specs.declared.Cluster.{Cluster}
 use Rattle.cluster.specs.Ranges.{Fits}
-use Rattle.cluster.specs.Servers.{mostServers, pastServer, zeroCluster, startedOf, freshCluster, serverCount, serverAt, withServer}
+use Rattle.mail.specs.declared.Report.{Report}
+use Rattle.mail.specs.declared.Note.{Note}
+use Rattle.mail.specs.Reports.{zeroReport, zeroNote}
+use Rattle.mail.specs.Queues.{reportAt}
+use Rattle.mail.specs.Mails.{noteAt, received}
+use Rattle.mail.proofs.Held.{zero-note-at, zero-report-at}
+use Rattle.cluster.specs.Servers.{mostServers, zeroServer, freshServer, pastServer, zeroCluster, startedOf, freshCluster, serverCount, serverAt, withMail, withServer}
 use Rattle.cluster.proofs.Fresh.{fresh-at, fresh-past}
-use Rattle.cluster.proofs.Changed.{replaced-here, replaced-others, changed-at}
+use Rattle.cluster.proofs.Changed.{replaced-here, replaced-others}
+use Rattle.steps.specs.declared.Sends.{Sends}
+use Rattle.steps.specs.declared.Sends.the-variants.{Nothing, To}
+use Rattle.steps.specs.declared.Stepped.{Stepped}
+use Rattle.rules.specs.Rules.{delivered, putBack}
+use Rattle.rules.proofs.Others.{put-either, changed-either}
 use Rattle.safety.specs.Quorum.{Quorums}
 use Rattle.safety.specs.Cluster.{EntrySeen, ServerSeen, Holds, Others}
+use Rattle.safety.specs.Told.{Place, note, slot, Told}
 use Rattle.safety.specs.Steps.{Goes, Fresh}
-use Rattle.safety.specs.View.{seenEntry, seenServer, view}
+use Rattle.safety.specs.View.{seenEntry, seenServer, view, toldIn, seenCluster}
 use Rattle.safety.proofs.Joins.{unchanged}
 use Rattle.safety.proofs.Time.{stamp-same}
 
@@ -41,51 +54,73 @@ use Rattle.safety.proofs.Time.{stamp-same}
 pub in-range : (c : Cluster) (a : ℕ) → ltb a (serverCount c) ≡ true → a < mostServers
 in-range c a l = omega (arith, ltb-true a (serverCount c) l)
 
-module _ (c : Cluster) (f : Fits c) (a : ℕ) (l : ltb a (serverCount c) ≡ true) (s : Server) where
-  pub here : view (withServer c a s) a ≡ seenServer s
-  here = ap seenServer (replaced-here c a s (omega (arith, f .slots, in-range c a l)))
+-- a delivery changes a queue alone, which no server shows
+delivered-view : (c : Cluster) (x : Sends) (i : ℕ) → view (delivered c x) i ≡ view c i
+unfolding delivered
+delivered-view c Nothing i = refl
+delivered-view c (To b r) i =
+    put-either (λ s. seenServer s ≡ view c i) c b (withMail (serverAt c b) (received (serverAt c b .mail) r)) i (λ e. ap (view c) (sym e)) refl
 
-  pub others : Others (view c) (view (withServer c a s)) a
-  others i ne = ap seenServer (replaced-others c a s i ne)
+-- server a as a step left it, whatever that sends
+module _ (c : Cluster) (f : Fits c) (a : ℕ) (l : ltb a (serverCount c) ≡ true) (o : Stepped) where
+  pub here : view (putBack c a o .cluster) a ≡ seenServer (o .server)
+  here =
+      delivered-view (withServer c a (o .server)) (o .sends) a
+      ∙ ap seenServer (replaced-here c a (o .server) (omega (arith, f .slots, in-range c a l)))
+
+  pub others : Others (view c) (view (putBack c a o .cluster)) a
+  others i ne = delivered-view (withServer c a (o .server)) (o .sends) i ∙ ap seenServer (replaced-others c a (o .server) i ne)
 
   -- a step that the view does not show
-  pub not-shown : {𝓠 : Quorums} → seenServer s ≡ view c a → Goes 𝓠 (view c) (view (withServer c a s))
+  pub not-shown : {𝓠 : Quorums} {m : Told} → seenServer (o .server) ≡ view c a → Goes 𝓠 m (view c) (view (putBack c a o .cluster))
   not-shown e = unchanged (λ i. by-cases (ℕ-discrete i a) (λ q. rw q (here ∙ e)) (others i))
-
--- all servers changed: those past the seventh are none
-changed-past : (g : ℕ → Server → Server) (c : Cluster) (i : ℕ) → length (c .servers) ≤ i
-    → serverAt (record { count = c .count; servers = each g (c .servers) }) i ≡ serverAt c i
-changed-past g c i h =
-    List·getD-eq-default (each g (c .servers)) pastServer (omega (arith, length-eachFrom g 0 (c .servers)))
-    ∙ sym (List·getD-eq-default (c .servers) pastServer h)
 
 -- a change of all servers that the view does not show at i
 pub changed-view : (g : ℕ → Server → Server) (c : Cluster) (i : ℕ) → seenServer (g i (serverAt c i)) ≡ view c i
     → view (record { count = c .count; servers = each g (c .servers) }) i ≡ view c i
-changed-view g c i e =
-    ⊎-elim (λ h. ap seenServer (changed-at g c i h) ∙ e) (λ h. ap seenServer (changed-past g c i h)) (lt-or-le i (length (c .servers)))
+changed-view g c i e = changed-either (λ s. seenServer s ≡ view c i) g c i e refl
 
 -- ---- the fresh cluster
 
--- every server of it looks like none
-fresh-view : (n i : ℕ) → view (freshCluster n) i ≡ seenServer pastServer
-fresh-view n i = ⊎-elim one past (lt-or-le i mostServers)
+-- each server of it is fresh, zero or none
+pub fresh-each : (P : Server → Type 0) → P freshServer → P zeroServer → P pastServer → (n i : ℕ) → P (serverAt (freshCluster n) i)
+fresh-each P x y z n i = ⊎-elim one past (lt-or-le i mostServers)
   where
-    one : i < mostServers → view (freshCluster n) i ≡ seenServer pastServer
-    one h = ⊎-elim (λ l. ap seenServer (fresh-at n i l h)) (λ l. ap seenServer (fresh-past n i l h)) (lt-or-le i n)
+    one : i < mostServers → P (serverAt (freshCluster n) i)
+    one h = ⊎-elim (λ l. subst P (sym (fresh-at n i l h)) x) (λ l. subst P (sym (fresh-past n i l h)) y) (lt-or-le i n)
 
-    past : mostServers ≤ i → view (freshCluster n) i ≡ seenServer pastServer
-    past h = ap seenServer (List·getD-eq-default (freshCluster n .servers) pastServer (omega (arith, length-eachFrom (startedOf n) 0 (zeroCluster .servers))))
+    past : mostServers ≤ i → P (serverAt (freshCluster n) i)
+    past h =
+        subst P (sym (List·getD-eq-default (freshCluster n .servers) pastServer (omega (arith, length-eachFrom (startedOf n) 0 (zeroCluster .servers))))) z
 
-pub fresh-seen : (n : ℕ) → Fresh (view (freshCluster n))
+-- so it looks like none
+fresh-view : (n i : ℕ) → view (freshCluster n) i ≡ seenServer pastServer
+fresh-view n i = fresh-each (λ s. seenServer s ≡ seenServer pastServer) refl refl refl n i
+
+-- and was told nothing
+fresh-notes : (n i j : ℕ) → noteAt (serverAt (freshCluster n) i .mail) j ≡ zeroNote
+fresh-notes n i j = fresh-each (λ s. noteAt (s .mail) j ≡ zeroNote) (zero-note-at j) (zero-note-at j) refl n i
+
+fresh-reports : (n i k : ℕ) → reportAt (serverAt (freshCluster n) i .mail .queue) k ≡ zeroReport
+fresh-reports n i k = fresh-each (λ s. reportAt (s .mail .queue) k ≡ zeroReport) (zero-report-at k) (zero-report-at k) refl n i
+
+fresh-told : (n : ℕ) (p : Place) → toldIn (freshCluster n) p .len ≡ 0
+fresh-told n (note i j) = ap (λ (x : Note). x .len) (fresh-notes n i j)
+fresh-told n (slot i k) = ap (λ (x : Report). x .len) (fresh-reports n i k)
+
+pub fresh-seen : (n : ℕ) → Fresh (seenCluster (freshCluster n))
 unfolding entryAt
 fresh-seen n =
     record {
-      len = λ i. ap (λ (s : ServerSeen). s .len) (fresh-view n i);
-      log = λ i. refl;
-      term = λ i. ap (λ (s : ServerSeen). s .term) (fresh-view n i);
-      role = λ i. ap (λ (s : ServerSeen). s .primary) (fresh-view n i);
-      commit = λ i. ap (λ (s : ServerSeen). s .commit) (fresh-view n i);
+      servers =
+          record {
+            len = λ i. ap (λ (s : ServerSeen). s .len) (fresh-view n i);
+            log = λ i. refl;
+            term = λ i. ap (λ (s : ServerSeen). s .term) (fresh-view n i);
+            role = λ i. ap (λ (s : ServerSeen). s .primary) (fresh-view n i);
+            commit = λ i. ap (λ (s : ServerSeen). s .commit) (fresh-view n i);
+          };
+      told = fresh-told n;
     }
 
 -- ---- entries

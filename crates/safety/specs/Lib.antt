@@ -5,6 +5,7 @@ pub mod Promise
 pub mod Newest
 pub mod Quorum
 pub mod Cluster
+pub mod Told
 pub mod Steps
 pub mod Demand3
 pub mod NewestSeen

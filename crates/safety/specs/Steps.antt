@@ -5,6 +5,7 @@ use mathlib.Core.Bool.{Bool, true, false}
 use Prim.Native.Nat.{ℕ, suc, _≤_, _<_, max}
 use Rattle.safety.specs.Quorum.{Quorums}
 use Rattle.safety.specs.Cluster.{EntrySeen, root, Agree, ServerSeen, Seen, lastTermSeen, appliedTimeSeen, NotBehind, Others}
+use Rattle.safety.specs.Told.{Place, Told, ClusterSeen, Said, Tells}
 
 -- the log of s is still that of r
 pub record SameLog (r s : ServerSeen) : Type 0 where
@@ -73,39 +74,49 @@ pub record Quiet (v : Seen) (i : ℕ) (s : ServerSeen) : Type 0 where
   pub rests : Rests (v i) s
   pub settles : Settles v i (s .commit)
 
--- kind 7: s counts for position n of r's log
-pub record Backs (r : ServerSeen) (n : ℕ) (s : ServerSeen) : Type 0 where
-  pub term : s .term ≡ r .term
-  pub within : n ≤ s .len
-  pub entry : s .log n ≡ r .log n
+-- kind 7: server i counts for position n with a, as a itself or by what was said of it
+pub data Counts (m : Told) (v : Seen) (a n i : ℕ) : Type 0 where
+  itself : i ≡ a → Counts m v a n i
+  reported : Said m i (v a .term) n → Counts m v a n i
 
--- kind 7: a's commit point goes to n, which passes
-pub record Passes (𝓠 : Quorums) (v v′ : Seen) (a n : ℕ) : Type 0 where
+-- kind 7: a's commit point goes to n, which passes; no other server is looked into
+pub record Passes (𝓠 : Quorums) (m : Told) (v v′ : Seen) (a n : ℕ) : Type 0 where
   pub within : n ≤ v a .len
   pub current : v a .log n .term ≡ v a .term
-  pub quorum : 𝓠 .Most (λ i. Backs (v a) n (v i))
+  pub quorum : 𝓠 .Most (Counts m v a n)
   pub keeps : SameLog (v a) (v′ a)
   pub term : v′ a .term ≡ v a .term
   pub role : v′ a .primary ≡ v a .primary
   pub commit : v′ a .commit ≡ n
   pub others : Others v v′ a
 
-pub data Goes (𝓠 : Quorums) (v v′ : Seen) : Type 0 where
-  elects : (a : ℕ) (members : ℕ → Bool) → Elects 𝓠 v v′ a members → Goes 𝓠 v v′
-  writes : (a : ℕ) (e : EntrySeen) → Writes v v′ a e → Goes 𝓠 v v′
-  takes : (a b : ℕ) → Takes v v′ a b → Goes 𝓠 v v′
-  quiet : ((i : ℕ) → Quiet v i (v′ i)) → Goes 𝓠 v v′
-  passes : (a n : ℕ) → Passes 𝓠 v v′ a n → Goes 𝓠 v v′
+-- what a step does to the servers, with all that was told before it
+pub data Goes (𝓠 : Quorums) (m : Told) (v v′ : Seen) : Type 0 where
+  elects : (a : ℕ) (members : ℕ → Bool) → Elects 𝓠 v v′ a members → Goes 𝓠 m v v′
+  writes : (a : ℕ) (e : EntrySeen) → Writes v v′ a e → Goes 𝓠 m v v′
+  takes : (a b : ℕ) → Takes v v′ a b → Goes 𝓠 m v v′
+  quiet : ((i : ℕ) → Quiet v i (v′ i)) → Goes 𝓠 m v v′
+  passes : (a n : ℕ) → Passes 𝓠 m v v′ a n → Goes 𝓠 m v v′
 
--- the fresh cluster
-pub record Fresh (v : Seen) : Type 0 where
+-- a step: what it does to the servers, and to what was told, which may be told on, noted or lost anyhow
+pub record StepSeen (𝓠 : Quorums) (x y : ClusterSeen) : Type 0 where
+  pub goes : Goes 𝓠 (x .told) (x .servers) (y .servers)
+  pub tells : (p : Place) → Tells (x .told) (y .servers) (y .told p)
+
+-- the servers of a fresh cluster
+pub record FreshServers (v : Seen) : Type 0 where
   pub len : (i : ℕ) → v i .len ≡ 0
   pub log : (i : ℕ) → v i .log 0 ≡ root
   pub term : (i : ℕ) → v i .term ≡ 0
   pub role : (i : ℕ) → v i .primary ≡ false
   pub commit : (i : ℕ) → v i .commit ≡ 0
 
+-- a fresh cluster: nobody was told anything
+pub record Fresh (x : ClusterSeen) : Type 0 where
+  pub servers : FreshServers (x .servers)
+  pub told : (p : Place) → x .told p .len ≡ 0
+
 -- any steps in any order
-pub data Walk (𝓠 : Quorums) : Seen → Seen → Type 0 where
-  stop : {v : Seen} → Walk 𝓠 v v
-  go : {v v′ v″ : Seen} → Walk 𝓠 v v′ → Goes 𝓠 v′ v″ → Walk 𝓠 v v″
+pub data Walk (𝓠 : Quorums) : ClusterSeen → ClusterSeen → Type 0 where
+  stop : {x : ClusterSeen} → Walk 𝓠 x x
+  go : {x y z : ClusterSeen} → Walk 𝓠 x y → StepSeen 𝓠 y z → Walk 𝓠 x z

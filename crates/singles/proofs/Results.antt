@@ -7,6 +7,7 @@ use Rattle.singles.specs.LocalRead.{localReadOf}
 use Rattle.singles.specs.MajorityRead.{majorityReadOf}
 use Rattle.singles.specs.Restarts.{restartsOf}
 use Rattle.singles.specs.StepsDown.{stepsDownOf}
+use Rattle.singles.specs.TakesReport.{forwards, takesReportOf}
 use Rattle.singles.specs.WallClock.{wallClockOf}
 use Rattle.singles.specs.Appends.{appendsOf, stampDone}
 use Rattle.singles.specs.NewestRead.{newestReadOf}
@@ -22,6 +23,8 @@ use Rattle.singles.proofs.writes_nothing.writes_nothing.Reads as writes
 use Rattle.singles.proofs.local_read.local_read.Reads as local-read-reads
 use Rattle.singles.proofs.majority_read.majority_read.Reads as majority-read-reads
 use Rattle.singles.proofs.newest_read.newest_read.Reads as newest-read-reads
+use Rattle.singles.proofs.takes_report.sends.Reads as sends-reads
+use Rattle.singles.proofs.takes_report.takes_report.Reads as takes-report-reads
 
 pub steps-down : (s : Server) → OneResult (λ x. steps-down-reads.Learnt tt (s, tt) x (s, tt))
 steps-down s = one-result (stepsDownOf s)
@@ -52,3 +55,9 @@ majority-read s key asked = one-result (majorityReadOf s key asked)
 
 pub newest-read : (s : Server) (key n term : ℕ) → OneResult (λ x. newest-read-reads.Learnt tt (s, (key, (n, (term, tt)))) x (s, (key, (n, (term, tt)))))
 newest-read s key n term = one-result (newestReadOf s key n term)
+
+pub sends : (s : Server) → OneResult (λ x. sends-reads.Learnt tt (s, tt) x (s, tt))
+sends s = one-result (forwards s)
+
+pub takes-report : (s : Server) → OneResult (λ x. takes-report-reads.Learnt tt (s, tt) x (s, tt))
+takes-report s = one-result (takesReportOf s)

@@ -11,6 +11,7 @@ use Rattle.log.specs.declared.Entry.{Entry}
 use Rattle.log.specs.Logs.{logLimit, lengthOf, appended}
 use Rattle.cluster.specs.declared.Server.{Server}
 use Rattle.cluster.specs.Servers.{withTime, withHead, withLog}
+use Rattle.steps.specs.declared.Sends.the-variants.{Nothing}
 use Rattle.steps.specs.declared.Stepped.{Stepped}
 use Rattle.steps.specs.declared.Answer.the-variants as A
 use Rattle.steps.specs.declared.Refusal.the-variants as R
@@ -44,7 +45,7 @@ stampedOf s key value t = withLog (withHead s (withTime (s .head) t)) (appended 
 -- the answer is the entry's position, term and time
 abbrev pub stampDone : Server → ℕ → ℕ → Time → Stepped
 stampDone s key value t =
-    record { server = stampedOf s key value t; answer = A.Entry (lengthOf (appended (s .log) (newEntry s key value t))) (s .head .term) t }
+    record { server = stampedOf s key value t; answer = A.Entry (lengthOf (appended (s .log) (newEntry s key value t))) (s .head .term) t; sends = Nothing }
 
 abbrev pub appendDone : Server → ℕ → ℕ → Stepped
 appendDone s key value = stampDone s key value (tickTime (tickOf (s .head .wall) (s .head .time)))

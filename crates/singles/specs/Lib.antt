@@ -1,4 +1,4 @@
--- Kinds 2, 6, 8, 9, 10, 11, 14 and 15: what a server does by itself, a module each. Assumes nothing.
+-- Kinds 2, 6, 8, 9, 10, 11, 14, 15 and 16: what a server does by itself, a module each. Assumes nothing.
 pub mod StepsDown
 pub mod Appends
 pub mod Writes
@@ -8,3 +8,4 @@ pub mod Restarts
 pub mod LocalRead
 pub mod MajorityRead
 pub mod NewestRead
+pub mod TakesReport

@@ -9,6 +9,7 @@ use Rattle.log.specs.Entries.{appliedTime, latestValue}
 use Rattle.log.specs.Logs.{live}
 use Rattle.log.specs.Order.{highestKey}
 use Rattle.cluster.specs.declared.Server.{Server}
+use Rattle.steps.specs.declared.Sends.the-variants.{Nothing}
 use Rattle.steps.specs.declared.Stepped.{Stepped}
 use Rattle.steps.specs.declared.Answer.the-variants.{Value}
 use Rattle.steps.specs.declared.Refusal.the-variants.{OutOfRange, NotYet}
@@ -24,7 +25,7 @@ abbrev pub localRules : Server → ℕ → Time → Rules
 localRules s key asked = readRules key (appliedTime (live (s .log))) asked
 
 abbrev pub localDone : Server → ℕ → Stepped
-localDone s key = record { server = s; answer = Value (latestValue key (live (s .log))) (appliedTime (live (s .log))) }
+localDone s key = record { server = s; answer = Value (latestValue key (live (s .log))) (appliedTime (live (s .log))); sends = Nothing }
 
 abbrev pub localReadOf : Server → ℕ → Time → Stepped
 localReadOf s key asked = decided (refusing s) (localDone s key) (localRules s key asked)

@@ -7,6 +7,7 @@ use Rattle.log.specs.declared.Entry.{Entry}
 use Rattle.log.specs.Entries.{entryAt, latestValue}
 use Rattle.log.specs.Logs.{live}
 use Rattle.cluster.specs.declared.Server.{Server}
+use Rattle.steps.specs.declared.Sends.the-variants.{Nothing}
 use Rattle.steps.specs.declared.Stepped.{Stepped}
 use Rattle.steps.specs.declared.Answer.the-variants.{Value}
 use Rattle.steps.specs.Refusals.{Rules, decided}
@@ -26,7 +27,7 @@ abbrev pub majorityRules : Server → ℕ → Time → Rules
 majorityRules s key asked = readRules key (commitTime s) asked
 
 abbrev pub majorityDone : Server → ℕ → Stepped
-majorityDone s key = record { server = s; answer = Value (latestValue key (covered s)) (commitTime s) }
+majorityDone s key = record { server = s; answer = Value (latestValue key (covered s)) (commitTime s); sends = Nothing }
 
 abbrev pub majorityReadOf : Server → ℕ → Time → Stepped
 majorityReadOf s key asked = decided (refusing s) (majorityDone s key) (majorityRules s key asked)

@@ -7,6 +7,7 @@ use Rattle.log.specs.Entries.{entryAt, hasEntry, latestValue}
 use Rattle.log.specs.Logs.{mayAsk, live}
 use Rattle.log.specs.Order.{highestKey}
 use Rattle.cluster.specs.declared.Server.{Server}
+use Rattle.steps.specs.declared.Sends.the-variants.{Nothing}
 use Rattle.steps.specs.declared.Stepped.{Stepped}
 use Rattle.steps.specs.declared.Answer.the-variants.{Value}
 use Rattle.steps.specs.declared.Refusal.the-variants.{OutOfRange, WrongRole, NoSuchEntry, NotYet}
@@ -27,7 +28,7 @@ newestRules s key n term =
 -- the value of the last entry for the key in the first n entries, with the time of the nth
 abbrev pub newestDone : Server → ℕ → ℕ → Stepped
 newestDone s key n =
-    record { server = s; answer = Value (latestValue key (take n (live (s .log)))) (entryAt (live (s .log)) n .time) }
+    record { server = s; answer = Value (latestValue key (take n (live (s .log)))) (entryAt (live (s .log)) n .time); sends = Nothing }
 
 abbrev pub newestReadOf : Server → ℕ → ℕ → ℕ → Stepped
 newestReadOf s key n term = decided (refusing s) (newestDone s key n) (newestRules s key n term)

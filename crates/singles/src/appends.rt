@@ -8,6 +8,7 @@ use cluster::Server;
 use log::Entry;
 use steps::Answer;
 use steps::Refusal;
+use steps::Sends;
 use steps::Stepped;
 
 // The server with one entry more, of its term and this time, which is its new cluster time.
@@ -30,6 +31,7 @@ pub fn stamped(s: Server, key: u8, value: u16, time: Time) -> Stepped
             ..s
         },
         answer: Answer::Entry(log::length_of(more), h.term, time),
+        sends: Sends::Nothing,
     }
 }
 

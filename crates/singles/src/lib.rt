@@ -1,10 +1,11 @@
-// What a server does by itself: kinds 2, 6, 8, 9, 10, 11, 14 and 15, a module each.
+// What a server does by itself: kinds 2, 6, 8, 9, 10, 11, 14, 15 and 16, a module each.
 pub mod appends;
 pub mod local_read;
 pub mod majority_read;
 pub mod newest_read;
 pub mod restarts;
 pub mod steps_down;
+pub mod takes_report;
 pub mod wall_clock;
 pub mod writes;
 pub mod writes_nothing;

@@ -5,6 +5,7 @@ use clock::Time;
 use cluster::Server;
 use steps::Answer;
 use steps::Refusal;
+use steps::Sends;
 use steps::Stepped;
 
 pub fn local_read(s: Server, key: u8, asked: Time) -> Stepped
@@ -22,5 +23,6 @@ pub fn local_read(s: Server, key: u8, asked: Time) -> Stepped
     Stepped {
         server: s,
         answer: Answer::Value(log::latest_value(g, key, n), reached),
+        sends: Sends::Nothing,
     }
 }

@@ -4,6 +4,7 @@ ghost use Rattle.singles.specs.NewestRead.{newestReadOf};
 use cluster::Server;
 use steps::Answer;
 use steps::Refusal;
+use steps::Sends;
 use steps::Stepped;
 
 pub fn newest_read(s: Server, key: u8, n: usize, term: u16) -> Stepped
@@ -31,5 +32,6 @@ pub fn newest_read(s: Server, key: u8, n: usize, term: u16) -> Stepped
     Stepped {
         server: s,
         answer: Answer::Value(log::latest_value(g, key, n), log::time_at(g, n)),
+        sends: Sends::Nothing,
     }
 }

@@ -4,6 +4,7 @@ ghost use Rattle.singles.specs.Restarts.{restartsOf};
 use cluster::Head;
 use cluster::Server;
 use steps::Answer;
+use steps::Sends;
 use steps::Stepped;
 
 pub fn restarts(s: Server) -> Stepped
@@ -20,8 +21,10 @@ pub fn restarts(s: Server) -> Stepped
                 time: time,
                 ..h
             },
+            mail: mail::ZERO_MAIL,
             ..s
         },
         answer: Answer::Done,
+        sends: Sends::Nothing,
     }
 }

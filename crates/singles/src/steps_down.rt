@@ -5,6 +5,7 @@ use cluster::Head;
 use cluster::Server;
 use steps::Answer;
 use steps::Refusal;
+use steps::Sends;
 use steps::Stepped;
 
 pub fn steps_down(s: Server) -> Stepped
@@ -23,5 +24,6 @@ pub fn steps_down(s: Server) -> Stepped
             ..s
         },
         answer: Answer::Done,
+        sends: Sends::Nothing,
     }
 }

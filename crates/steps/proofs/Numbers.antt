@@ -7,3 +7,6 @@ use Rattle.steps.specs.Answers.{numberOf}
 
 pub number-kept : (n : ℕ) → n ≤ limit → numberOf n ≡ n
 number-kept n h = omega (arith, h)
+
+pub number-fits : (n : ℕ) → numberOf n ≤ limit
+number-fits n = omega arith

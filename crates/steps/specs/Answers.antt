@@ -8,12 +8,13 @@ use Rattle.steps.specs.declared.Answer.{Answer}
 use Rattle.steps.specs.declared.Answer.the-variants.{Done, Elected, Reached, Entry, Value, Refused}
 use Rattle.steps.specs.declared.Telling.{Telling}
 use Rattle.steps.specs.declared.Telling.the-variants as T
+use Rattle.steps.specs.declared.Sends.the-variants.{Nothing}
 use Rattle.steps.specs.declared.Stepped.{Stepped}
 use Rattle.steps.specs.declared.Outcome.{Outcome}
 
 -- any refusal returns only its number, and what was there before
 abbrev pub refusing : Server → Refusal → Stepped
-refusing s r = record { server = s; answer = Refused r }
+refusing s r = record { server = s; answer = Refused r; sends = Nothing }
 
 abbrev pub refusingAll : Cluster → Refusal → Outcome
 refusingAll c r = record { cluster = c; answer = Refused r }

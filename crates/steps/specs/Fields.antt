@@ -4,7 +4,7 @@ use Rattle.clock.specs.declared.Time.{Time}
 use Rattle.clock.specs.Times.{zeroTime}
 use Rattle.steps.specs.declared.Frame.{Frame}
 use Rattle.steps.specs.declared.Step.{Step}
-use Rattle.steps.specs.declared.Step.the-variants.{Start, Elect, StepDown, Hears, Pulls, RollsBack, Writes, Advances, WallClock, Restarts, LocalRead, MajorityRead, Acknowledged, ClocksAgree, WritesNothing, NewestRead}
+use Rattle.steps.specs.declared.Step.the-variants.{Start, Elect, StepDown, Hears, Pulls, RollsBack, Writes, Advances, WallClock, Restarts, LocalRead, MajorityRead, Acknowledged, ClocksAgree, WritesNothing, NewestRead, TakesReport}
 
 abbrev pub fields : ℕ → ℕ → ℕ → ℕ → ℕ → ℕ → ℕ → Time → Frame
 fields kind a b set key number term time = record { kind = kind; a = a; b = b; set = set; key = key; number = number; term = term; time = time }
@@ -27,3 +27,4 @@ frameFor (Acknowledged a count position term) = fields 12 a 0 count 0 position t
 frameFor ClocksAgree = fields 13 0 0 0 0 0 0 zeroTime
 frameFor (WritesNothing a) = fields 14 a 0 0 0 0 0 zeroTime
 frameFor (NewestRead a key position term) = fields 15 a 0 0 key position term zeroTime
+frameFor (TakesReport a) = fields 16 a 0 0 0 0 0 zeroTime

@@ -4,6 +4,7 @@ ghost use Rattle.steps.specs.Answers.{refusing, refusingAll, tellingOf, 
 use clock::Time;
 use cluster::Cluster;
 use cluster::Server;
+use mail::Report;
 
 // One variant a kind, in the order of 01 and 02, holding just the fields that it uses, each as wide as on the wire.
 pub enum Step {
@@ -38,6 +39,8 @@ pub enum Step {
     WritesNothing(u8),
     // a, key, position, term
     NewestRead(u8, u8, u16, u16),
+    // a
+    TakesReport(u8),
 }
 
 // The fields of a step frame, in the order of its bytes; set is a set or a count.
@@ -87,10 +90,17 @@ pub enum Telling {
     Refusing(Refusal),
 }
 
+// What a step of one server sends: nothing, or a report to a server.
+pub enum Sends {
+    Nothing,
+    To(usize, Report),
+}
+
 // What a step of one server gives.
 pub struct Stepped {
     pub server: Server,
     pub answer: Answer,
+    pub sends: Sends,
 }
 
 // What a step of the whole record gives.
@@ -106,6 +116,7 @@ pub fn refuse(s: Server, r: Refusal) -> Stepped
     Stepped {
         server: s,
         answer: Answer::Refused(r),
+        sends: Sends::Nothing,
     }
 }
 

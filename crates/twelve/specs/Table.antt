@@ -2,7 +2,7 @@
 -- Assumes nothing.
 use mathlib.Core.List.{List, [], _∷_, _++_, map}
 use mathlib.Core.Bool.{Bool, true, false, _&&_, Bool·beq}
-use Prim.Native.Nat.{ℕ, suc, _-_}
+use Prim.Native.Nat.{ℕ, suc, _+_, _-_}
 use lib.Dec.{eqb}
 use lib.ListN.{length, replicate}
 use Rattle.clock.specs.declared.Time.{Time}
@@ -13,9 +13,10 @@ use Rattle.log.specs.declared.Entry.{Entry}
 use Rattle.log.specs.declared.Log.{Log}
 use Rattle.log.specs.Entries.{zeroEntry, lastTerm, appliedTime, commonBeginning}
 use Rattle.log.specs.Logs.{logLimit, live}
+use Rattle.mail.specs.Reports.{zeroNote}
+use Rattle.mail.specs.Mails.{zeroMail, withNotes}
 use Rattle.cluster.specs.declared.Server.{Server}
-use Rattle.cluster.specs.declared.Cluster.{Cluster}
-use Rattle.cluster.specs.Servers.{mostServers, withHead, withLog, zeroServer, freshServer, serverAt}
+use Rattle.cluster.specs.Servers.{mostServers, withHead, withLog, withMail, freshServer}
 use Rattle.cluster.specs.Sets.{isMajority}
 use Rattle.steps.specs.Refusals.{Rules, decided, refusalNumber}
 use Rattle.pairs.specs.Pulls.{pullRules}
@@ -33,6 +34,10 @@ Terms = List ℕ
 abbrev pub Holder : Type 0
 Holder = ℕ × Terms
 
+-- a note: term, last term, length
+abbrev pub Triple : Type 0
+Triple = ℕ × ℕ × ℕ
+
 -- the sorts of cases; the last argument is what is expected, and an expected refusal is its number, 0 where the step is done
 pub data Row : Type 0 where
   -- whether the set of a mask is a majority of so many servers
@@ -49,8 +54,8 @@ pub data Row : Type 0 where
   pull : Terms → Terms → ℕ → Row
   -- the refusal of a rollback, likewise
   rollBack : Terms → Terms → ℕ → Row
-  -- the highest position that passes at this primary among these others, 0 if none does
-  passing : Holder → List Holder → ℕ → Row
+  -- the highest position that passes at this primary, which has these notes about the others, 0 if none does
+  passing : Holder → List Triple → ℕ → Row
   -- a case of two halves
   both : Row → Row → Row
 
@@ -78,13 +83,11 @@ secondaryOf ts = serverOf (lastTerm (live (logOf ts))) false ts
 abbrev pub writerOf : Time → ℕ → Server
 writerOf t wall = withHead freshServer (record { term = 1; primary = true; commit = 0; wall = wall; time = t })
 
--- the servers of a cluster, and zero past the count
-abbrev pub clusterOf : List Server → Cluster
-clusterOf ss = record { count = length ss; servers = ss ++ replicate (mostServers - length ss) zeroServer }
-
--- server 0 is the primary
-abbrev pub ledBy : Holder → List Holder → Cluster
-ledBy h hs = clusterOf (serverOf (h .0) true (h .1) ∷ map (λ o. serverOf (o .0) false (o .1)) hs)
+-- server 0 is the primary, and has no note about itself
+abbrev pub leaderOf : Holder → List Triple → Server
+leaderOf h ns =
+    withMail (serverOf (h .0) true (h .1))
+    (withNotes zeroMail (zeroNote ∷ (map (λ n. record { term = n .0; last = n .1; len = n .2 }) ns ++ replicate (mostServers - 1 - length ns) zeroNote)))
 
 abbrev pub ticksTo : Ticked → Time → Bool
 ticksTo (To s) t = sameTime s t
@@ -103,7 +106,7 @@ rowHolds (write t wall n) = eqb (verdict (writeRules (writerOf (timeOf t) wall) 
 rowHolds (share xs ys n) = eqb (commonBeginning (live (logOf xs)) (live (logOf ys))) n
 rowHolds (pull xs ys n) = eqb (verdict (pullRules (secondaryOf xs) (secondaryOf ys))) n
 rowHolds (rollBack xs ys n) = eqb (verdict (rollRules (secondaryOf xs) (secondaryOf ys))) n
-rowHolds (passing h hs n) = eqb (highestPassing (ledBy h hs) (serverAt (ledBy h hs) 0)) n
+rowHolds (passing h ns n) = eqb (highestPassing (length ns + 1) (leaderOf h ns) 0) n
 rowHolds (both r s) = rowHolds r && rowHolds s
 
 -- every row passes a test
@@ -135,7 +138,7 @@ table =
     ∷ both (pull (1 ∷ []) (1 ∷ 2 ∷ []) 0) (pull (2 ∷ []) (1 ∷ 3 ∷ []) 5)
     -- (11) [1,2] rolls back to [1,3], and [1] doesn't
     ∷ both (rollBack (1 ∷ 2 ∷ []) (1 ∷ 3 ∷ []) 0) (rollBack (1 ∷ []) (1 ∷ 3 ∷ []) 5)
-    -- (12) a primary of term 4 with [1,2,4] in a cluster of 5, where two others of term 4 hold [1,2] and nobody else rowHolds
-    -- position 3: nothing passes
-    ∷ passing (4, 1 ∷ 2 ∷ 4 ∷ []) ((4, 1 ∷ 2 ∷ []) ∷ (4, 1 ∷ 2 ∷ []) ∷ (3, 1 ∷ []) ∷ (3, []) ∷ []) 0
+    -- (12) a primary of term 4 with [1,2,4] in a cluster of 5, with notes that two others of term 4 have last term 2 and length 2 (02), and
+    -- no others: nothing passes
+    ∷ passing (4, 1 ∷ 2 ∷ 4 ∷ []) ((4, 2, 2) ∷ (4, 2, 2) ∷ (0, 0, 0) ∷ (0, 0, 0) ∷ []) 0
     ∷ []

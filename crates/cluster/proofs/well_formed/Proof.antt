@@ -7,7 +7,6 @@ use Rattle.base.proofs.Bools.{said-no, said-yes}
 use Rattle.base.proofs.Facts.{tests}
 use Rattle.base.specs.Numbers.{every}
 use native.Mathlib.Omega.{arith}
-use lib.Dec.{ltb}
 use mathlib.Core.Bool.{Bool, true}
 use mathlib.Core.Path.{_≡_}
 use Prim.Native.Nat.{ℕ, _≤_, _-_}
@@ -17,7 +16,7 @@ use Rattle.cluster.proofs.well_formed.Tie as tie
 
 -- server i is as its place asks
 abbrev ok : Cluster → ℕ → Bool
-ok c i = serverOk (ltb i (c .count)) (serverAt c i)
+ok c i = serverOk (c .count) i (serverAt c i)
 
 abbrev Inv-loop : tie.InvT-loop
 Inv-loop c count i₀ i = (i ≤ 7) × (every i (ok c) ≡ true)

@@ -1,7 +1,7 @@
 -- `fits::step_fits` meets its contract. Assumes nothing.
 use borrow.Fn as fn
 use Rattle.fits.proofs.step_fits.Lts.{ps, dens}
-use Rattle.steps.specs.declared.Step.the-variants.{Start, Elect, StepDown, Hears, Pulls, RollsBack, Writes, Advances, WallClock, Restarts, LocalRead, MajorityRead, Acknowledged, ClocksAgree, WritesNothing, NewestRead}
+use Rattle.steps.specs.declared.Step.the-variants.{Start, Elect, StepDown, Hears, Pulls, RollsBack, Writes, Advances, WallClock, Restarts, LocalRead, MajorityRead, Acknowledged, ClocksAgree, WritesNothing, NewestRead, TakesReport}
 use Rattle.steps.specs.Ranges.{FitsStep}
 use Rattle.steps.specs.declared.Step.{Step}
 use mathlib.Core.Path.{refl}
@@ -28,6 +28,7 @@ fit (Acknowledged a k n term) g = search needs
 fit ClocksAgree g = search needs
 fit (WritesNothing a) g = search needs
 fit (NewestRead a key n term) g = search needs
+fit (TakesReport a) g = search needs
 
 returns : tie.Need-returns
 returns c = (refl, fit (c .args .s) (c .good))

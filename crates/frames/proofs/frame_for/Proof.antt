@@ -101,6 +101,12 @@ enum-known-s-15 c = search needs
 fields-requires-16 : tie.Need-fields-requires-16
 fields-requires-16 c κs = search needs
 
+enum-known-s-16 : tie.Need-enum-known-s-16
+enum-known-s-16 c = search needs
+
+fields-requires-17 : tie.Need-fields-requires-17
+fields-requires-17 c κs = search needs
+
 returns : tie.Need-returns
 returns c = c .fields .ensures ∙ sym (ap frameFor (c .before .before .s .given .1))
 
@@ -149,6 +155,9 @@ returns-15 c = c .fields15 .ensures ∙ sym (ap frameFor (c .before .before .s14
 returns-16 : tie.Need-returns-16
 returns-16 c = c .fields16 .ensures ∙ sym (ap frameFor (c .before .before .s15 .given .1))
 
+returns-17 : tie.Need-returns-17
+returns-17 c = c .fields17 .ensures ∙ sym (ap frameFor (c .before .before .s16 .given .1))
+
 pub frame-for-spec : {M : Type 1} → statement M
 frame-for-spec =
     tie.close
@@ -185,6 +194,8 @@ frame-for-spec =
     fields-requires-15
     enum-known-s-15
     fields-requires-16
+    enum-known-s-16
+    fields-requires-17
     returns
     returns-2
     returns-3
@@ -200,4 +211,5 @@ frame-for-spec =
     returns-13
     returns-14
     returns-15
-    returns-16)
+    returns-16
+    returns-17)

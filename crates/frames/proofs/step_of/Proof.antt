@@ -73,8 +73,11 @@ returns-16 : tie.Need-returns-16
 returns-16 c = at-kind (c .before .before .args .f) 15 (c .match .keys16)
 
 returns-17 : tie.Need-returns-17
+returns-17 c = at-kind (c .before .before .args .f) 16 (c .match .keys17)
+
+returns-18 : tie.Need-returns-18
 unfolding NoneBelow
-returns-17 c = let f = c .before .before .args .f in sym (unknown-kind f (above (f .kind) kinds (c .match .rest)))
+returns-18 c = let f = c .before .before .args .f in sym (unknown-kind f (above (f .kind) kinds (c .match .rest)))
 
 pub step-of-spec : {M : Type 1} → statement M
 step-of-spec =
@@ -96,4 +99,5 @@ step-of-spec =
     returns-14
     returns-15
     returns-16
-    returns-17)
+    returns-17
+    returns-18)

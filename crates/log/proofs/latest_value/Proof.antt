@@ -8,7 +8,7 @@ use Rattle.base.proofs.Facts.{mapped-long}
 use native.Mathlib.Omega.{arith}
 use lib.ListN.{length, take, length-take, getD}
 use mathlib.Core.Path.{_≡_, ap, _∙_}
-use Prim.Native.Nat.{_≤_, _<_, _-_, ℕ, suc}
+use Prim.Native.Nat.{_≤_, _-_, ℕ, suc}
 use borrow.Author.Needs.{needs}
 use Rattle.log.proofs.latest_value.Statement.{statement}
 use Rattle.log.proofs.latest_value.Tie as tie

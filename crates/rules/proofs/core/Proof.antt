@@ -1,5 +1,5 @@
 -- `rules::core` meets its contract. Assumes nothing.
-use Rattle.rules.proofs.Parts.{core-down, core-hears, core-pulls, core-rolls-back, core-writes, core-clock, core-restarts, core-local, core-majority, core-nothing, core-newest}
+use Rattle.rules.proofs.Parts.{core-down, core-hears, core-pulls, core-rolls-back, core-writes, core-clock, core-restarts, core-local, core-majority, core-nothing, core-newest, core-takes-report}
 use Rattle.rules.specs.Rules.{rowOf, coreOf}
 use mathlib.Core.Path.{sym, ap, _∙_}
 use borrow.Author.Needs.{needs}
@@ -162,6 +162,15 @@ cast-single-8 c = search needs
 single-requires-8 : tie.Need-single-requires-8
 single-requires-8 c κs = search needs
 
+enum-known-step-16 : tie.Need-enum-known-step-16
+enum-known-step-16 c = search needs
+
+cast-single-9 : tie.Need-cast-single-9
+cast-single-9 c = search needs
+
+single-requires-9 : tie.Need-single-requires-9
+single-requires-9 c κs = search needs
+
 returns : tie.Need-returns
 unfolding coreOf rowOf
 returns c = let e = c .before .before .step .given .1 in c .starts .ensures ∙ sym (ap (coreOf (c .before .before .before .before .args .c)) e)
@@ -214,6 +223,9 @@ returns-15 c = let g = c .before .before .step14 .given in c .single7 .ensures �
 
 returns-16 : tie.Need-returns-16
 returns-16 c = let g = c .before .before .step15 .given in c .single8 .ensures ∙ core-newest (c .before .before .before .before .args .c) (g .0 .0) (g .0 .1 .0) (g .0 .1 .1 .0) (g .0 .1 .1 .1 .0) ∙ sym (ap (coreOf (c .before .before .before .before .args .c)) (g .1))
+
+returns-17 : tie.Need-returns-17
+returns-17 c = let g = c .before .before .step16 .given in c .single9 .ensures ∙ core-takes-report (c .before .before .before .before .args .c) (g .0 .0) ∙ sym (ap (coreOf (c .before .before .before .before .args .c)) (g .1))
 
 pub core-spec : {M : Type 1} → statement M
 core-spec =
@@ -271,6 +283,9 @@ core-spec =
     enum-known-step-15
     cast-single-8
     single-requires-8
+    enum-known-step-16
+    cast-single-9
+    single-requires-9
     returns
     returns-2
     returns-3
@@ -286,4 +301,5 @@ core-spec =
     returns-13
     returns-14
     returns-15
-    returns-16)
+    returns-16
+    returns-17)

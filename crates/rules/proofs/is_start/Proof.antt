@@ -1,6 +1,6 @@
 -- `rules::is_start` meets its contract. Assumes nothing.
 use Rattle.steps.specs.declared.Step.{Step}
-use Rattle.steps.specs.declared.Step.the-variants.{Start, Elect, StepDown, Hears, Pulls, RollsBack, Writes, Advances, WallClock, Restarts, LocalRead, MajorityRead, Acknowledged, ClocksAgree, WritesNothing, NewestRead}
+use Rattle.steps.specs.declared.Step.the-variants.{Start, Elect, StepDown, Hears, Pulls, RollsBack, Writes, Advances, WallClock, Restarts, LocalRead, MajorityRead, Acknowledged, ClocksAgree, WritesNothing, NewestRead, TakesReport}
 use Rattle.steps.proofs.Step.{the-type}
 use Rattle.rules.specs.Rules.{isStart}
 use denote.Enum.Declared.{tagOf}
@@ -15,7 +15,7 @@ use Rattle.rules.proofs.is_start.Tie as tie
 
 -- the places of all other kinds among the variants
 abbrev others : List ℕ
-others = 1 ∷ 2 ∷ 3 ∷ 4 ∷ 5 ∷ 6 ∷ 7 ∷ 8 ∷ 9 ∷ 10 ∷ 11 ∷ 12 ∷ 13 ∷ 14 ∷ 15 ∷ []
+others = 1 ∷ 2 ∷ 3 ∷ 4 ∷ 5 ∷ 6 ∷ 7 ∷ 8 ∷ 9 ∷ 10 ∷ 11 ∷ 12 ∷ 13 ∷ 14 ∷ 15 ∷ 16 ∷ []
 
 no-start : (s : Step) → OneOf others (tagOf the-type s) → false ≡ isStart s
 no-start (Start a) h = absurd (miss others 0 tt h)
@@ -34,6 +34,7 @@ no-start (Acknowledged a count position term) h = refl
 no-start ClocksAgree h = refl
 no-start (WritesNothing a) h = refl
 no-start (NewestRead a key position term) h = refl
+no-start (TakesReport a) h = refl
 
 enum-told : tie.Need-enum-told
 enum-told c = search needs

@@ -17,56 +17,56 @@ enum-told-2 c = search needs
 hears-requires : tie.Need-hears-requires
 hears-requires c κs = search needs
 
-enum-told-3 : tie.Need-enum-told-3
-enum-told-3 c = search needs
+enum-known-step : tie.Need-enum-known-step
+enum-known-step c = search needs
 
 pulls-requires : tie.Need-pulls-requires
 pulls-requires c κs = search needs
 
-enum-told-4 : tie.Need-enum-told-4
-enum-told-4 c = search needs
+enum-known-step-2 : tie.Need-enum-known-step-2
+enum-known-step-2 c = search needs
 
 rolls-back-requires : tie.Need-rolls-back-requires
 rolls-back-requires c κs = search needs
 
-enum-known-step : tie.Need-enum-known-step
-enum-known-step c = search needs
+enum-known-step-3 : tie.Need-enum-known-step-3
+enum-known-step-3 c = search needs
 
 writes-requires : tie.Need-writes-requires
 writes-requires c κs = search needs
 
-enum-told-5 : tie.Need-enum-told-5
-enum-told-5 c = search needs
+enum-told-3 : tie.Need-enum-told-3
+enum-told-3 c = search needs
 
 wall-clock-requires : tie.Need-wall-clock-requires
 wall-clock-requires c κs = search needs
 
-enum-told-6 : tie.Need-enum-told-6
-enum-told-6 c = search needs
+enum-told-4 : tie.Need-enum-told-4
+enum-told-4 c = search needs
 
 restarts-requires : tie.Need-restarts-requires
 restarts-requires c κs = search needs
 
-enum-known-step-2 : tie.Need-enum-known-step-2
-enum-known-step-2 c = search needs
+enum-known-step-4 : tie.Need-enum-known-step-4
+enum-known-step-4 c = search needs
 
 local-read-requires : tie.Need-local-read-requires
 local-read-requires c κs = search needs
 
-enum-known-step-3 : tie.Need-enum-known-step-3
-enum-known-step-3 c = search needs
+enum-known-step-5 : tie.Need-enum-known-step-5
+enum-known-step-5 c = search needs
 
 majority-read-requires : tie.Need-majority-read-requires
 majority-read-requires c κs = search needs
 
-enum-told-7 : tie.Need-enum-told-7
-enum-told-7 c = search needs
+enum-told-5 : tie.Need-enum-told-5
+enum-told-5 c = search needs
 
 writes-nothing-requires : tie.Need-writes-nothing-requires
 writes-nothing-requires c κs = search needs
 
-enum-known-step-4 : tie.Need-enum-known-step-4
-enum-known-step-4 c = search needs
+enum-known-step-6 : tie.Need-enum-known-step-6
+enum-known-step-6 c = search needs
 
 cast-newest-read : tie.Need-cast-newest-read
 cast-newest-read c = search needs
@@ -74,32 +74,38 @@ cast-newest-read c = search needs
 newest-read-requires : tie.Need-newest-read-requires
 newest-read-requires c κs = search needs
 
-enum-told-8 : tie.Need-enum-told-8
-enum-told-8 c = search needs
+enum-told-6 : tie.Need-enum-told-6
+enum-told-6 c = search needs
+
+takes-report-requires : tie.Need-takes-report-requires
+takes-report-requires c κs = search needs
+
+enum-told-7 : tie.Need-enum-told-7
+enum-told-7 c = search needs
 
 untouched-requires : tie.Need-untouched-requires
 untouched-requires c κs = search needs
 
-enum-told-9 : tie.Need-enum-told-9
-enum-told-9 c = search needs
+enum-told-8 : tie.Need-enum-told-8
+enum-told-8 c = search needs
 
 untouched-requires-2 : tie.Need-untouched-requires-2
 untouched-requires-2 c κs = search needs
 
-enum-told-10 : tie.Need-enum-told-10
-enum-told-10 c = search needs
+enum-told-9 : tie.Need-enum-told-9
+enum-told-9 c = search needs
 
 untouched-requires-3 : tie.Need-untouched-requires-3
 untouched-requires-3 c κs = search needs
 
-enum-told-11 : tie.Need-enum-told-11
-enum-told-11 c = search needs
+enum-told-10 : tie.Need-enum-told-10
+enum-told-10 c = search needs
 
 untouched-requires-4 : tie.Need-untouched-requires-4
 untouched-requires-4 c κs = search needs
 
-enum-told-12 : tie.Need-enum-told-12
-enum-told-12 c = search needs
+enum-told-11 : tie.Need-enum-told-11
+enum-told-11 c = search needs
 
 untouched-requires-5 : tie.Need-untouched-requires-5
 untouched-requires-5 c κs = search needs
@@ -114,59 +120,63 @@ returns-2 c = let b = c .before .before .before .args in c .hears .ensures ∙ s
 
 returns-3 : tie.Need-returns-3
 unfolding oneOf
-returns-3 c = let b = c .before .before .before .args in c .pulls .ensures ∙ sym (ap (oneOf (b .s) (b .t)) (c .before .enum-told3 .given .1))
+returns-3 c = let b = c .before .before .before .before .args in c .pulls .ensures ∙ sym (ap (oneOf (b .s) (b .t)) (c .before .before .step .given .1))
 
 returns-4 : tie.Need-returns-4
 unfolding oneOf
-returns-4 c = let b = c .before .before .before .args in c .rolls-back .ensures ∙ sym (ap (oneOf (b .s) (b .t)) (c .before .enum-told4 .given .1))
+returns-4 c = let b = c .before .before .before .before .args in c .rolls-back .ensures ∙ sym (ap (oneOf (b .s) (b .t)) (c .before .before .step2 .given .1))
 
 returns-5 : tie.Need-returns-5
 unfolding oneOf
-returns-5 c = let b = c .before .before .before .before .args in c .writes .ensures ∙ sym (ap (oneOf (b .s) (b .t)) (c .before .before .step .given .1))
+returns-5 c = let b = c .before .before .before .before .args in c .writes .ensures ∙ sym (ap (oneOf (b .s) (b .t)) (c .before .before .step3 .given .1))
 
 returns-6 : tie.Need-returns-6
 unfolding oneOf
-returns-6 c = let b = c .before .before .before .args in c .wall-clock .ensures ∙ sym (ap (oneOf (b .s) (b .t)) (c .before .enum-told5 .given .1))
+returns-6 c = let b = c .before .before .before .args in c .wall-clock .ensures ∙ sym (ap (oneOf (b .s) (b .t)) (c .before .enum-told3 .given .1))
 
 returns-7 : tie.Need-returns-7
 unfolding oneOf
-returns-7 c = let b = c .before .before .before .args in c .restarts .ensures ∙ sym (ap (oneOf (b .s) (b .t)) (c .before .enum-told6 .given .1))
+returns-7 c = let b = c .before .before .before .args in c .restarts .ensures ∙ sym (ap (oneOf (b .s) (b .t)) (c .before .enum-told4 .given .1))
 
 returns-8 : tie.Need-returns-8
 unfolding oneOf
-returns-8 c = let b = c .before .before .before .before .args in c .local-read .ensures ∙ sym (ap (oneOf (b .s) (b .t)) (c .before .before .step2 .given .1))
+returns-8 c = let b = c .before .before .before .before .args in c .local-read .ensures ∙ sym (ap (oneOf (b .s) (b .t)) (c .before .before .step4 .given .1))
 
 returns-9 : tie.Need-returns-9
 unfolding oneOf
-returns-9 c = let b = c .before .before .before .before .args in c .majority-read .ensures ∙ sym (ap (oneOf (b .s) (b .t)) (c .before .before .step3 .given .1))
+returns-9 c = let b = c .before .before .before .before .args in c .majority-read .ensures ∙ sym (ap (oneOf (b .s) (b .t)) (c .before .before .step5 .given .1))
 
 returns-10 : tie.Need-returns-10
 unfolding oneOf
-returns-10 c = let b = c .before .before .before .args in c .writes-nothing .ensures ∙ sym (ap (oneOf (b .s) (b .t)) (c .before .enum-told7 .given .1))
+returns-10 c = let b = c .before .before .before .args in c .writes-nothing .ensures ∙ sym (ap (oneOf (b .s) (b .t)) (c .before .enum-told5 .given .1))
 
 returns-11 : tie.Need-returns-11
 unfolding oneOf
-returns-11 c = let b = c .before .before .before .before .args in c .newest-read .ensures ∙ sym (ap (oneOf (b .s) (b .t)) (c .before .before .step4 .given .1))
+returns-11 c = let b = c .before .before .before .before .args in c .newest-read .ensures ∙ sym (ap (oneOf (b .s) (b .t)) (c .before .before .step6 .given .1))
 
 returns-12 : tie.Need-returns-12
 unfolding oneOf
-returns-12 c = let b = c .before .before .before .args in c .untouched .ensures ∙ sym (ap (oneOf (b .s) (b .t)) (c .before .enum-told8 .given .1))
+returns-12 c = let b = c .before .before .before .args in c .takes-report .ensures ∙ sym (ap (oneOf (b .s) (b .t)) (c .before .enum-told6 .given .1))
 
 returns-13 : tie.Need-returns-13
 unfolding oneOf
-returns-13 c = let b = c .before .before .before .args in c .untouched2 .ensures ∙ sym (ap (oneOf (b .s) (b .t)) (c .before .enum-told9 .given .1))
+returns-13 c = let b = c .before .before .before .args in c .untouched .ensures ∙ sym (ap (oneOf (b .s) (b .t)) (c .before .enum-told7 .given .1))
 
 returns-14 : tie.Need-returns-14
 unfolding oneOf
-returns-14 c = let b = c .before .before .before .args in c .untouched3 .ensures ∙ sym (ap (oneOf (b .s) (b .t)) (c .before .enum-told10 .given .1))
+returns-14 c = let b = c .before .before .before .args in c .untouched2 .ensures ∙ sym (ap (oneOf (b .s) (b .t)) (c .before .enum-told8 .given .1))
 
 returns-15 : tie.Need-returns-15
 unfolding oneOf
-returns-15 c = let b = c .before .before .before .args in c .untouched4 .ensures ∙ sym (ap (oneOf (b .s) (b .t)) (c .before .enum-told11 .given .1))
+returns-15 c = let b = c .before .before .before .args in c .untouched3 .ensures ∙ sym (ap (oneOf (b .s) (b .t)) (c .before .enum-told9 .given .1))
 
 returns-16 : tie.Need-returns-16
 unfolding oneOf
-returns-16 c = let b = c .before .before .before .args in c .untouched5 .ensures ∙ sym (ap (oneOf (b .s) (b .t)) (c .before .enum-told12 .given .1))
+returns-16 c = let b = c .before .before .before .args in c .untouched4 .ensures ∙ sym (ap (oneOf (b .s) (b .t)) (c .before .enum-told10 .given .1))
+
+returns-17 : tie.Need-returns-17
+unfolding oneOf
+returns-17 c = let b = c .before .before .before .args in c .untouched5 .ensures ∙ sym (ap (oneOf (b .s) (b .t)) (c .before .enum-told11 .given .1))
 
 pub one-spec : {M : Type 1} → statement M
 one-spec =
@@ -176,34 +186,36 @@ one-spec =
     steps-down-requires
     enum-told-2
     hears-requires
-    enum-told-3
-    pulls-requires
-    enum-told-4
-    rolls-back-requires
     enum-known-step
-    writes-requires
-    enum-told-5
-    wall-clock-requires
-    enum-told-6
-    restarts-requires
+    pulls-requires
     enum-known-step-2
-    local-read-requires
+    rolls-back-requires
     enum-known-step-3
-    majority-read-requires
-    enum-told-7
-    writes-nothing-requires
+    writes-requires
+    enum-told-3
+    wall-clock-requires
+    enum-told-4
+    restarts-requires
     enum-known-step-4
+    local-read-requires
+    enum-known-step-5
+    majority-read-requires
+    enum-told-5
+    writes-nothing-requires
+    enum-known-step-6
     cast-newest-read
     newest-read-requires
-    enum-told-8
+    enum-told-6
+    takes-report-requires
+    enum-told-7
     untouched-requires
-    enum-told-9
+    enum-told-8
     untouched-requires-2
-    enum-told-10
+    enum-told-9
     untouched-requires-3
-    enum-told-11
+    enum-told-10
     untouched-requires-4
-    enum-told-12
+    enum-told-11
     untouched-requires-5
     returns
     returns-2
@@ -220,4 +232,5 @@ one-spec =
     returns-13
     returns-14
     returns-15
-    returns-16)
+    returns-16
+    returns-17)

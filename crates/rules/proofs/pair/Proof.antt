@@ -1,9 +1,7 @@
 -- `rules::pair` meets its contract. Assumes nothing.
-use Rattle.rules.specs.One.{oneOf, pairOf}
+use Rattle.rules.specs.One.{pairOf}
 use Rattle.rules.specs.Rules.{putBack}
-use Rattle.steps.specs.declared.Outcome.{Outcome}
-use Rattle.steps.specs.declared.Stepped.{Stepped}
-use Rattle.cluster.specs.Servers.{serverAt, serverCount, withServer}
+use Rattle.cluster.specs.Servers.{serverCount}
 use lib.Dec.{ltb}
 use mathlib.Core.Bool.{true}
 use borrow.Author.Tests.{lt-ltb, le-ltb, eq-eqb, ne-eqb}
@@ -63,17 +61,15 @@ element-copy-out-t c = omega (arith, c .before .before .before .before .server-c
 one-requires : tie.Need-one-requires
 one-requires c κs = search needs
 
-with-server-requires : tie.Need-with-server-requires
-with-server-requires c κs = search needs
+put-back-requires : tie.Need-put-back-requires
+put-back-requires c κs = search needs
 
 returns-4 : tie.Need-returns-4
 unfolding pairOf
 returns-4 c =
-    let b = c .before .before .before .before .before .before .before .before .before .args in
-    let e = c .before .before .one .ensures in
-    let o : _≡_ {A = Outcome} (record { cluster = c .with-server .result; answer = c .before .before .one .result .answer }) (putBack (b .t1) (b .a) (oneOf (serverAt (b .t1) (b .a)) (serverAt (b .t1) (b .b)) (b .step))) =
-    λ i. record { cluster = (c .with-server .ensures ∙ ap (λ (r : Stepped). withServer (b .t1) (b .a) (r .server)) e) i; answer = e i .answer } in
-    rw (first (c .before .before .before .before .before .before .before), second (c .before .before .before .before .before .before), ne-eqb (b .a) (b .b) (c .before .before .before .before .before .if3 .left)) o
+    let b = c .before .before .before .before .before .before .before .before .args in
+    rw (first (c .before .before .before .before .before .before), second (c .before .before .before .before .before), ne-eqb (b .a) (b .b) (c .before .before .before .before .if3 .left))
+    (c .put-back .ensures ∙ ap (putBack (b .t1) (b .a)) (c .before .one .ensures))
 
 pub pair-spec : {M : Type 1} → statement M
 pair-spec =
@@ -91,5 +87,5 @@ pair-spec =
     mul-t
     element-copy-out-t
     one-requires
-    with-server-requires
+    put-back-requires
     returns-4)

@@ -1,12 +1,10 @@
 -- `rules::single` meets its contract. Assumes nothing.
-use Rattle.rules.specs.One.{oneOf, singleOf}
+use Rattle.rules.specs.One.{singleOf}
 use Rattle.rules.specs.Rules.{putBack}
-use Rattle.steps.specs.declared.Outcome.{Outcome}
-use Rattle.steps.specs.declared.Stepped.{Stepped}
-use Rattle.cluster.specs.Servers.{serverAt, serverCount, withServer}
+use Rattle.cluster.specs.Servers.{serverCount}
 use borrow.Author.Tests.{lt-ltb, le-ltb}
 use native.Mathlib.Omega.{arith}
-use mathlib.Core.Path.{_≡_, ap, _∙_}
+use mathlib.Core.Path.{ap, _∙_}
 use borrow.Author.Needs.{needs}
 use Rattle.rules.proofs.single.Statement.{statement}
 use Rattle.rules.proofs.single.Tie as tie
@@ -32,17 +30,14 @@ element-copy-out-s c = omega (arith, c .before .server-count .ensures)
 one-requires : tie.Need-one-requires
 one-requires c κs = search needs
 
-with-server-requires : tie.Need-with-server-requires
-with-server-requires c κs = search needs
+put-back-requires : tie.Need-put-back-requires
+put-back-requires c κs = search needs
 
 returns-2 : tie.Need-returns-2
 unfolding singleOf
 returns-2 c =
-    let b = c .before .before .before .before .before .before .args in
-    let e = c .before .before .one .ensures in
-    let o : _≡_ {A = Outcome} (record { cluster = c .with-server .result; answer = c .before .before .one .result .answer }) (putBack (b .t1) (b .a) (oneOf (serverAt (b .t1) (b .a)) (serverAt (b .t1) (b .a)) (b .step))) =
-    λ i. record { cluster = (c .with-server .ensures ∙ ap (λ (r : Stepped). withServer (b .t1) (b .a) (r .server)) e) i; answer = e i .answer } in
-    rw (lt-ltb (b .a) (serverCount (b .t1)) (omega (arith, c .before .before .before .before .before .server-count .ensures))) o
+    let b = c .before .before .before .before .before .args in
+    rw (lt-ltb (b .a) (serverCount (b .t1)) (omega (arith, c .before .before .before .before .server-count .ensures))) (c .put-back .ensures ∙ ap (putBack (b .t1) (b .a)) (c .before .one .ensures))
 
 pub single-spec : {M : Type 1} → statement M
 single-spec =
@@ -54,5 +49,5 @@ single-spec =
     mul-s
     element-copy-out-s
     one-requires
-    with-server-requires
+    put-back-requires
     returns-2)

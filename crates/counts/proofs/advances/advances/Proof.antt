@@ -23,8 +23,8 @@ in-range c = lt-ltb (c .before .before .args .a) (serverCount (c .before .before
 primary : (c : tie.Else2) → serverAt (c .before .before .before .before .before .args .t1) (c .before .before .before .before .before .args .a) .head .primary ≡ true
 primary c = not-false (serverAt (c .before .before .before .before .before .args .t1) (c .before .before .before .before .before .args .a) .head .primary) (c .if2 .left)
 
-found : (c : tie.Else3) → leb 1 (highestPassing (c .before .before .before .before .before .before .before .args .t1) (serverAt (c .before .before .before .before .before .before .before .args .t1) (c .before .before .before .before .before .before .before .args .a))) ≡ true
-found c = le-leb 1 (highestPassing (c .before .before .before .before .before .before .before .args .t1) (serverAt (c .before .before .before .before .before .before .before .args .t1) (c .before .before .before .before .before .before .before .args .a))) (omega (arith, c .before .highest-passing .ensures))
+found : (c : tie.Else3) → leb 1 (highestPassing (serverCount (c .before .before .before .before .before .before .before .args .t1)) (serverAt (c .before .before .before .before .before .before .before .args .t1) (c .before .before .before .before .before .before .before .args .a)) (c .before .before .before .before .before .before .before .args .a)) ≡ true
+found c = le-leb 1 (highestPassing (serverCount (c .before .before .before .before .before .before .before .args .t1)) (serverAt (c .before .before .before .before .before .before .before .args .t1) (c .before .before .before .before .before .before .before .args .a)) (c .before .before .before .before .before .before .before .args .a)) (omega (arith, c .before .highest-passing .ensures))
 
 server-count-requires : tie.Need-server-count-requires
 server-count-requires c κs = search needs
@@ -62,7 +62,7 @@ refuse-all-requires-3 c κs = search needs
 returns-3 : tie.Need-returns-3
 returns-3 c =
     let b = c .before .before .before .before .before .before .before .before .args in
-    let no : leb 1 (highestPassing (b .t1) (serverAt (b .t1) (b .a))) ≡ false = lt-leb 1 (highestPassing (b .t1) (serverAt (b .t1) (b .a))) (omega (arith, c .before .before .highest-passing .ensures)) in
+    let no : leb 1 (highestPassing (serverCount (b .t1)) (serverAt (b .t1) (b .a)) (b .a)) ≡ false = lt-leb 1 (highestPassing (serverCount (b .t1)) (serverAt (b .t1) (b .a)) (b .a)) (omega (arith, c .before .before .highest-passing .ensures)) in
     c .refuse-all3 .ensures ∙ sym (decided-broken (refusingAll (b .t1)) (advanceDone (b .t1) (b .a)) {rs = advanceRules (b .t1) (b .a)}
     (later (in-range (c .before .before .before .before .before .before)) (later (primary (c .before .before .before)) (here no))))
 
@@ -71,11 +71,11 @@ with-server-requires c κs = search needs
 
 returns-4 : tie.Need-returns-4
 returns-4 c =
-    let b = c .before .before .before .before .before .before .before .before .before .before .before .args in
-    let e = c .before .before .before .before .before .highest-passing .ensures in
+    let b = c .before .before .before .before .before .before .before .before .before .before .before .before .args in
+    let e = c .before .before .before .before .before .before .highest-passing .ensures in
     let w = c .with-server .ensures ∙ ap (λ (n : ℕ). withServer (b .t1) (b .a) (committedOf (serverAt (b .t1) (b .a)) n)) e in
-    let o : _≡_ {A = Outcome} (record { cluster = c .with-server .result; answer = Reached (c .before .before .before .before .before .highest-passing .result) }) (advanceDone (b .t1) (b .a)) = λ i. record { cluster = w i; answer = Reached (e i) } in
-    o ∙ sym (decided-clear (refusingAll (b .t1)) (advanceDone (b .t1) (b .a)) (advanceRules (b .t1) (b .a)) (in-range (c .before .before .before .before .before .before .before .before .before), (primary (c .before .before .before .before .before .before), (found (c .before .before .before .before), tt))))
+    let o : _≡_ {A = Outcome} (record { cluster = c .with-server .result; answer = Reached (c .before .before .before .before .before .before .highest-passing .result) }) (advanceDone (b .t1) (b .a)) = λ i. record { cluster = w i; answer = Reached (e i) } in
+    o ∙ sym (decided-clear (refusingAll (b .t1)) (advanceDone (b .t1) (b .a)) (advanceRules (b .t1) (b .a)) (in-range (c .before .before .before .before .before .before .before .before .before .before), (primary (c .before .before .before .before .before .before .before), (found (c .before .before .before .before .before), tt))))
 
 pub advances-spec : {M : Type 1} → statement M
 advances-spec =

@@ -1,7 +1,6 @@
 -- `counts::advances::highest_passing` meets its contract. Assumes nothing.
 use Rattle.counts.proofs.Passing.{passes-low, passes-yes, passes-old, passes-few}
 use Rattle.counts.specs.Advances.{backs, backers, passes, highestPassing}
-use Rattle.cluster.specs.Servers.{serverAt, serverCount}
 use Rattle.log.specs.Logs.{lengthOf}
 use Rattle.base.proofs.Highest.{highest-here, highest-down, highest-none}
 use Rattle.base.proofs.Counting.{count-none, count-yes, count-no}
@@ -15,22 +14,22 @@ use Rattle.counts.proofs.advances.highest_passing.Statement.{statement}
 use Rattle.counts.proofs.advances.highest_passing.Tie as tie
 
 abbrev Inv-loop2 : tie.InvT-loop2
-Inv-loop2 s c size g n k₀ i₀ k i = (i ≤ size) × (k ≤ i) × (k ≡ count i (λ j. backs s n (serverAt c j)))
+Inv-loop2 all s a size g n k₀ i₀ k i = (i ≤ size) × (k ≤ i) × (k ≡ count i (backs s a n))
 
 abbrev μ-loop2 : tie.MeasureT-loop2
-μ-loop2 s c size g n k₀ i₀ k i = size - i
+μ-loop2 all s a size g n k₀ i₀ k i = size - i
 
 abbrev Inv-loop : tie.InvT-loop
-Inv-loop s c size g n₀ n = (n ≤ lengthOf (s .log)) × (highest (passes c s) (lengthOf (s .log)) ≡ highest (passes c s) n)
+Inv-loop all s a size g n₀ n = (n ≤ lengthOf (s .log)) × (highest (passes size s a) (lengthOf (s .log)) ≡ highest (passes size s a) n)
 
 abbrev μ-loop : tie.MeasureT-loop
-μ-loop s c size g n₀ n = n
+μ-loop all s a size g n₀ n = n
 
 -- after the count: it is that of the backers
-backed : (c : tie.After-loop2 Inv-loop2 μ-loop2 Inv-loop μ-loop) → c .before .loop2 .k ≡ backers (c .before .before .before .before .before .before .before .before .args .t1) (c .before .before .before .before .before .before .before .before .args .s) (c .before .before .before .before .loop .n)
+backed : (c : tie.After-loop2 Inv-loop2 μ-loop2 Inv-loop μ-loop) → c .before .loop2 .k ≡ backers (c .before .before .before .before .before .before .before .server-count .result) (c .before .before .before .before .before .before .before .before .args .s) (c .before .before .before .before .before .before .before .before .args .a) (c .before .before .before .before .loop .n)
 backed c =
-    let e : c .before .loop2 .i ≡ serverCount (c .before .before .before .before .before .before .before .before .args .t1) = omega (arith, c .before .before .before .before .before .before .before .server-count .ensures) in
-    c .before .loop2 .inv .2 ∙ ap (λ (m : ℕ). count m (λ j. backs (c .before .before .before .before .before .before .before .before .args .s) (c .before .before .before .before .loop .n) (serverAt (c .before .before .before .before .before .before .before .before .args .t1) j))) e
+    let e : c .before .loop2 .i ≡ c .before .before .before .before .before .before .before .server-count .result = omega arith in
+    c .before .loop2 .inv .2 ∙ ap (λ (m : ℕ). count m (backs (c .before .before .before .before .before .before .before .before .args .s) (c .before .before .before .before .before .before .before .before .args .a) (c .before .before .before .before .loop .n))) e
 
 server-count-requires : tie.Need-server-count-requires Inv-loop2 μ-loop2 Inv-loop μ-loop
 server-count-requires c κs = search needs
@@ -39,32 +38,26 @@ length-of-requires : tie.Need-length-of-requires Inv-loop2 μ-loop2 Inv-loop μ-
 length-of-requires c κs = search needs
 
 loop-holds : tie.Need-loop-holds Inv-loop2 μ-loop2 Inv-loop μ-loop
-loop-holds c = (omega (arith, c .length-of .ensures), ap (highest (passes (c .before .before .before .args .t1) (c .before .before .before .args .s))) (sym (c .length-of .ensures)))
+loop-holds c = (omega (arith, c .length-of .ensures), ap (highest (passes (c .before .before .server-count .result) (c .before .before .before .args .s) (c .before .before .before .args .a))) (sym (c .length-of .ensures)))
 
 loop2-holds : tie.Need-loop2-holds Inv-loop2 μ-loop2 Inv-loop μ-loop
 loop2-holds c = (search needs, search needs, sym (count-none _))
-
-mul-t : tie.Need-mul-t Inv-loop2 μ-loop2 Inv-loop μ-loop
-mul-t c = search (needs, c .before .before .before .before .before .before .before .server-count .ensures)
-
-element-copy-out-t : tie.Need-element-copy-out-t Inv-loop2 μ-loop2 Inv-loop μ-loop
-element-copy-out-t c = omega (arith, c .before .before .before .before .before .before .before .server-count .ensures)
 
 does-back-requires : tie.Need-does-back-requires Inv-loop2 μ-loop2 Inv-loop μ-loop
 does-back-requires c κs = search needs
 
 add-k : tie.Need-add-k Inv-loop2 μ-loop2 Inv-loop μ-loop
-add-k c = omega (arith, c .before .before .before .before .before .before .before .before .before .before .server-count .ensures)
+add-k c = omega (arith, c .before .before .before .before .before .before .before .before .before .server-count .ensures)
 
 add-i : tie.Need-add-i Inv-loop2 μ-loop2 Inv-loop μ-loop
-add-i c = omega (arith, c .before .before .before .before .before .before .before .before .before .before .server-count .ensures)
+add-i c = omega (arith, c .before .before .before .before .before .before .before .before .before .server-count .ensures)
 
 loop2-less : tie.Need-loop2-less Inv-loop2 μ-loop2 Inv-loop μ-loop
 loop2-less c = search needs
 
 loop2-again : tie.Need-loop2-again Inv-loop2 μ-loop2 Inv-loop μ-loop
 loop2-again c =
-    let b = c .before .before .before .before in (
+    let b = c .before .before .before in (
       search needs,
       ⊎-elim (λ w. omega arith) (λ w. omega arith) (c .if2 .came),
       ⊎-elim
@@ -88,12 +81,13 @@ loop-less c = search needs
 loop-again : tie.Need-loop-again Inv-loop2 μ-loop2 Inv-loop μ-loop
 loop-again c =
     let b = c .before .before .before .before in
-    let m = c .before .before .before .before .before .before .before .before in
+    let m = b .before .before .before .before in
     let a = m .before .before .before .before .args in
-    let z = c .before .before .before .before .before .before .before .before .before .before .before .server-count .ensures in
+    let z = m .before .before .before .server-count .result in
+    let e = c .before .before .before .entry-at in
     let no = ⊎-elim
-    (λ w. passes-few (a .t1) (a .s) (m .loop .n) (c .before .before .before .entry-at .result) (b .before .loop2 .k) (omega arith) (m .loop .inv .0) (c .before .before .before .entry-at .ensures) (backed b) (omega (arith, z, w .1 .left)))
-    (λ w. passes-old (a .t1) (a .s) (m .loop .n) (c .before .before .before .entry-at .result) (b .before .loop2 .k) (omega arith) (m .loop .inv .0) (c .before .before .before .entry-at .ensures) (backed b) (w .left))
+    (λ w. passes-few z (a .s) (a .a) (m .loop .n) (e .result) (b .before .loop2 .k) (omega arith) (m .loop .inv .0) (e .ensures) (backed b) (omega (arith, w .1 .left)))
+    (λ w. passes-old z (a .s) (a .a) (m .loop .n) (e .result) (b .before .loop2 .k) (omega arith) (m .loop .inv .0) (e .ensures) (backed b) (w .left))
     (c .if3 .came) in
     (omega (arith, m .loop .inv .0), m .loop .inv .1 ∙ highest-down _ _ no)
 
@@ -101,17 +95,19 @@ returns : tie.Need-returns Inv-loop2 μ-loop2 Inv-loop μ-loop
 unfolding highestPassing
 returns c =
     let m = c .before .before in
-    sym (m .loop .inv .1 ∙ highest-none _ _ (λ j l. passes-low _ _ j (omega arith)))
+    let a = m .before .before .before .before .args in
+    sym (ap (λ (z : ℕ). highest (passes z (a .s) (a .a)) (lengthOf (a .s .log))) (sym (m .before .before .before .server-count .ensures)) ∙ m .loop .inv .1 ∙ highest-none _ _ (λ j l. passes-low _ _ _ j (omega arith)))
 
 returns-2 : tie.Need-returns-2 Inv-loop2 μ-loop2 Inv-loop μ-loop
 unfolding highestPassing
 returns-2 c =
     let b = c .before .before .before .before .before in
-    let m = c .before .before .before .before .before .before .before .before .before in
+    let m = b .before .before .before .before in
     let a = m .before .before .before .before .args in
-    sym (m .loop .inv .1 ∙ highest-here _ _ (omega arith)
-    (passes-yes (a .t1) (a .s) (m .loop .n) (c .before .before .before .before .entry-at .result) (b .before .loop2 .k) (omega arith) (m .loop .inv .0) (c .before .before .before .before .entry-at .ensures) (backed b) (c .before .if3 .taken)
-    (omega (arith, c .before .before .before .before .before .before .before .before .before .before .before .before .server-count .ensures, c .if4 .taken))))
+    let z = m .before .before .before .server-count .result in
+    let e = c .before .before .before .before .entry-at in
+    sym (ap (λ (x : ℕ). highest (passes x (a .s) (a .a)) (lengthOf (a .s .log))) (sym (m .before .before .before .server-count .ensures)) ∙ m .loop .inv .1 ∙ highest-here _ _ (omega arith)
+    (passes-yes z (a .s) (a .a) (m .loop .n) (e .result) (b .before .loop2 .k) (omega arith) (m .loop .inv .0) (e .ensures) (backed b) (c .before .if3 .taken) (omega (arith, c .if4 .taken))))
 
 pub highest-passing-spec : {M : Type 1} → statement M
 highest-passing-spec =
@@ -125,8 +121,6 @@ highest-passing-spec =
     length-of-requires
     loop-holds
     loop2-holds
-    mul-t
-    element-copy-out-t
     does-back-requires
     add-k
     add-i

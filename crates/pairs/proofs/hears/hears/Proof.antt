@@ -27,7 +27,9 @@ takes-commit-requires c κs = search needs
 
 returns : tie.Need-returns
 unfolding heardOf
-returns c = rw (commit-is (c .before), c .before .before .before .stays-primary .ensures, c .before .before .before .before .greater-term .ensures, c .before .before .before .before .before .later .ensures)
+returns c =
+    let b = c .before .before in
+    rw (commit-is b, b .before .before .stays-primary .ensures, b .before .before .before .greater-term .ensures, b .before .before .before .before .later .ensures)
 
 pub hears-spec : {M : Type 1} → statement M
 hears-spec =

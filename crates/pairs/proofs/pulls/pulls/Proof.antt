@@ -61,12 +61,12 @@ join-requires c κs = search needs
 took-requires : tie.Need-took-requires
 took-requires c κs = search needs
 
-length-of-requires-3 : tie.Need-length-of-requires-3
-length-of-requires-3 c κs = search needs
+sent-requires : tie.Need-sent-requires
+sent-requires c κs = search needs
 
 returns-4 : tie.Need-returns-4
 returns-4 c =
-    rw (secondary (c .before .before .before .before .before .before .before .before), shorter (c .before .before .before .before .before), said-yes _ _ (length-is (c .before .before .before .before)) (c .before .before .before .if3 .left), c .before .took .ensures, c .length-of3 .ensures, log-is (c .before .before))
+    rw (secondary (c .before .before .before .before .before .before .before .before), shorter (c .before .before .before .before .before), said-yes _ _ (length-is (c .before .before .before .before)) (c .before .before .before .if3 .left), c .sent .ensures, c .before .took .ensures, log-is (c .before .before))
 
 pub pulls-spec : {M : Type 1} → statement M
 pulls-spec =
@@ -83,5 +83,5 @@ pulls-spec =
     returns-3
     join-requires
     took-requires
-    length-of-requires-3
+    sent-requires
     returns-4)

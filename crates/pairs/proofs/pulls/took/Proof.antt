@@ -15,7 +15,7 @@ greater-requires c κs = search needs
 
 returns : tie.Need-returns
 unfolding tookOf
-returns c = rw (c .greater .ensures, c .before .greater-term .ensures, c .before .before .later .ensures)
+returns c = rw (c .before .greater .ensures, c .before .before .greater-term .ensures, c .before .before .before .later .ensures)
 
 pub took-spec : {M : Type 1} → statement M
 took-spec = tie.close (tie.spec later-requires greater-term-requires greater-requires returns)

@@ -91,12 +91,12 @@ join-requires c κs = search needs
 took-requires : tie.Need-took-requires
 took-requires c κs = search needs
 
-length-of-requires-2 : tie.Need-length-of-requires-2
-length-of-requires-2 c κs = search needs
+sent-requires : tie.Need-sent-requires
+sent-requires c κs = search needs
 
 returns-6 : tie.Need-returns-6
 returns-6 c =
-    rw (secondary (c .before .before .before .before .before .before .before .before .before .before .before .before .before), filled (c .before .before .before .before .before .before .before .before .before .before .before), below (c .before .before .before .before .before .before .before .before), parted (c .before .before .before .before .before .before), covered (c .before .before .before), c .before .took .ensures, c .length-of2 .ensures, log-is (c .before .before))
+    rw (secondary (c .before .before .before .before .before .before .before .before .before .before .before .before .before), filled (c .before .before .before .before .before .before .before .before .before .before .before), below (c .before .before .before .before .before .before .before .before), parted (c .before .before .before .before .before .before), covered (c .before .before .before), c .sent .ensures, c .before .took .ensures, log-is (c .before .before))
 
 pub rolls-back-spec : {M : Type 1} → statement M
 rolls-back-spec =
@@ -119,5 +119,5 @@ rolls-back-spec =
     returns-5
     join-requires
     took-requires
-    length-of-requires-2
+    sent-requires
     returns-6)

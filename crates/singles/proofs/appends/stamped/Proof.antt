@@ -12,7 +12,7 @@ length-of-requires c κs = search needs
 
 returns : tie.Need-returns
 unfolding stampedOf
-returns c = rw (c .length-of .ensures, c .before .append .ensures)
+returns c = rw (c .length-of .ensures, c .before .before .append .ensures)
 
 pub stamped-spec : {M : Type 1} → statement M
 stamped-spec = tie.close (tie.spec append-requires length-of-requires returns)
