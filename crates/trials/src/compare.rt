@@ -1,6 +1,7 @@
 // What a step changed, looked for in every slot.
 use crate::numbers;
 use crate::say;
+use crate::told;
 use cluster::Cluster;
 use cluster::Server;
 use log::Log;
@@ -14,18 +15,28 @@ fn same_slots(g: Log, h: Log) -> bool {
     log::common_beginning(a, b) == log::LOG_LIMIT
 }
 
+// Whether nothing differs, used or not.
+fn unchanged(s: Server, t: Server) -> bool {
+    if !numbers::same(say::numbers_of(0, s), say::numbers_of(0, t)) {
+        return false;
+    }
+    let g = s.log;
+    let h = t.log;
+    if !same_slots(g, h) {
+        return false;
+    }
+    told::same(s.mail, t.mail)
+}
+
 // Writes server i where t isn't s. Whether all servers up to it are the same, where those before it are so far.
 fn same_server(i: usize, s: Server, t: Server, so_far: bool) -> bool {
-    let n = say::numbers_of(i, t);
-    let g = t.log;
-    if numbers::same(n, say::numbers_of(i, s)) {
-        let h = s.log;
-        if same_slots(g, h) {
-            return so_far;
-        }
+    if unchanged(s, t) {
+        return so_far;
     }
-    say::row(b"server", n);
+    let g = t.log;
+    say::row(b"server", say::numbers_of(i, t));
     say::entries(i, g);
+    told::show(i, t.mail);
     false
 }
 

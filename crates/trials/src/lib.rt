@@ -4,6 +4,7 @@ mod compare;
 mod numbers;
 mod record;
 mod say;
+mod told;
 
 use cluster::Cluster;
 use frames::ReadStep;

@@ -4,13 +4,17 @@ use crate::numbers::PLACES;
 use crate::numbers::byte;
 use crate::numbers::word;
 use crate::say;
+use crate::told;
+use crate::told::MAIL;
+use crate::told::NOTE;
+use crate::told::REPORT;
 use clock::Time;
 use cluster::Cluster;
 use cluster::Head;
 use cluster::Server;
 use log::Entry;
 
-// How many numbers there are in a line `fresh`, `server` and `entry`.
+// How many numbers there are in a line `fresh`, `server` and `entry`; `told` has the other lines.
 const FRESH: usize = 1;
 
 pub(crate) const SERVER: usize = 8;
@@ -23,6 +27,9 @@ fn wanted(first: u8) -> usize {
         b'f' => FRESH,
         b's' => SERVER,
         b'e' => ENTRY,
+        b'm' => MAIL,
+        b'n' => NOTE,
+        b'r' => REPORT,
         _ => usize::MAX,
     }
 }
@@ -87,12 +94,14 @@ fn with_entry(s: Server, line: &[u8], n: [usize; PLACES]) -> Server {
     Server { log: g, ..s }
 }
 
-// The server after a line that changes it.
+// The server after a line that changes it; each kind of line has a count of numbers of its own, which tells it from the others.
 fn with_line(s: Server, line: &[u8], n: [usize; PLACES]) -> Server {
-    if n[0] == SERVER {
-        with_numbers(s, n)
-    } else {
-        with_entry(s, line, n)
+    match n[0] {
+        SERVER => with_numbers(s, n),
+        MAIL => told::with_mail(s, n),
+        NOTE => told::with_note(s, line, n),
+        REPORT => told::with_report(s, line, n),
+        _ => with_entry(s, line, n),
     }
 }
 
