@@ -35,7 +35,7 @@ const WORDS: [&str; 2] = ["steps.Reasons", "rules.Statements"];
 /// What a type's module is named by, as `log.declared.Entry`, where its definition is its declaration.
 const DECLARED: &str = ".declared.";
 /// How many lines they may be.
-const MOST: usize = 850;
+const MOST: usize = 950;
 
 /// A definition by its module, as `log.Entries`, and its name.
 type Place = (String, String);

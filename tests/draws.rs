@@ -4,7 +4,7 @@ use super::Run;
 use crate::model::{KINDS, Role, SERVERS, Server, Step, Time};
 
 /// How often each kind is drawn among ordinary steps.
-const WEIGHTS: [usize; KINDS] = [1, 3, 2, 12, 14, 6, 9, 8, 5, 3, 8, 10, 12, 2, 5, 10];
+const WEIGHTS: [usize; KINDS] = [1, 3, 2, 12, 14, 6, 9, 8, 5, 3, 8, 10, 12, 2, 5, 10, 14];
 
 impl Run {
     fn mostly<T: Copy>(&mut self, usual: T, odd: &[T]) -> T {
@@ -46,6 +46,13 @@ impl Run {
         let (any, count) = (self.server(), self.count() as u8);
         let primary = self.with_most(self.everyone(), |server| server.role == Role::Primary);
         self.mostly(primary, &[any, any, count, 255])
+    }
+
+    /// Mostly a server at which reports wait; any server where none do.
+    fn told(&mut self) -> u8 {
+        let (any, count) = (self.server(), self.count() as u8);
+        let told = self.with_most(self.everyone(), |server| server.queue.length > 0);
+        self.mostly(told, &[any, any, count, 255])
     }
 
     /// Whom a should hear, pull from or roll back to: another primary, or just another.
@@ -181,10 +188,11 @@ impl Run {
             12 => self.acknowledged(a),
             13 => Step::ClocksAgree,
             14 => Step::WritesNothing { a: self.primary() },
-            _ => {
+            15 => {
                 let a = self.primary();
                 self.newest_read(a)
             }
+            _ => Step::TakesReport { a: self.told() },
         }
     }
 

@@ -22,7 +22,8 @@ fn fields_of(step: &Step) -> Fields {
         | Step::Advances { a }
         | Step::WallClock { a }
         | Step::Restarts { a }
-        | Step::WritesNothing { a } => Fields { a, ..UNUSED },
+        | Step::WritesNothing { a }
+        | Step::TakesReport { a } => Fields { a, ..UNUSED },
         Step::Elect { a, set } => Fields { a, set_or_count: set, ..UNUSED },
         Step::Hears { a, b } | Step::Pulls { a, b } | Step::RollsBack { a, b } => {
             Fields { a, b, ..UNUSED }

@@ -35,6 +35,7 @@ pub fn step_where(holds: impl Fn(&Cluster) -> bool, cluster: &mut Cluster, step:
         Step::NewestRead { a, key, position, term } => {
             cluster.newest_read(a.into(), key, position.into(), term)
         }
+        Step::TakesReport { a } => cluster.takes_report(a.into()),
     }
 }
 
@@ -88,6 +89,7 @@ impl Cluster {
             self.servers[i].term = term;
             self.servers[i].role = if i == a { Primary } else { Secondary };
         }
+        self.servers[a].forget_reports();
         Ok(Numbers { term, ..Numbers::NONE })
     }
 
@@ -114,29 +116,38 @@ impl Cluster {
     }
 
     fn pulls(&mut self, a: usize, b: usize) -> Answer {
-        let (a, b) = self.two_servers(a, b)?;
-        refuse_if(a.role != Secondary, NotSecondary)?;
-        refuse_if(a.log.length >= b.log.length, NotShorter)?;
+        let (puller, from) = self.two_servers(a, b)?;
+        refuse_if(puller.role != Secondary, NotSecondary)?;
+        refuse_if(puller.log.length >= from.log.length, NotShorter)?;
         // At position 0 neither has an entry, so an empty log passes.
-        let n = a.log.length;
-        refuse_if(a.log.entry(n) != b.log.entry(n), LastEntryDiffers)?;
-        a.log.append_rest_of(&b.log);
-        a.take_greater(b);
-        Ok(Numbers::place(a.log.length))
+        let n = puller.log.length;
+        refuse_if(puller.log.entry(n) != from.log.entry(n), LastEntryDiffers)?;
+        puller.log.append_rest_of(&from.log);
+        puller.take_greater(from);
+        Ok(self.reports_to(a, b))
     }
 
     fn rolls_back(&mut self, a: usize, b: usize) -> Answer {
-        let (a, b) = self.two_servers(a, b)?;
-        refuse_if(a.role != Secondary, NotSecondary)?;
-        refuse_if(a.log.length == 0, LogEmpty)?;
-        refuse_if(a.log.last_term() >= b.log.last_term(), LastTermNotBelow)?;
-        let common = a.log.common_with(&b.log);
-        refuse_if(common == a.log.length, ABeginning)?;
-        refuse_if(common < a.commit_point, CommonBelowCommitPoint)?;
+        let (loser, winner) = self.two_servers(a, b)?;
+        refuse_if(loser.role != Secondary, NotSecondary)?;
+        refuse_if(loser.log.length == 0, LogEmpty)?;
+        refuse_if(loser.log.last_term() >= winner.log.last_term(), LastTermNotBelow)?;
+        let common = loser.log.common_with(&winner.log);
+        refuse_if(common == loser.log.length, ABeginning)?;
+        refuse_if(common < loser.commit_point, CommonBelowCommitPoint)?;
         // A common beginning and then the rest of b's log is b's log.
-        a.log = b.log;
-        a.take_greater(b);
-        Ok(Numbers::place(a.log.length))
+        loser.log = winner.log;
+        loser.take_greater(winner);
+        Ok(self.reports_to(a, b))
+    }
+
+    /// What a pull and a rollback end with, once a has b's entries: b is a's source and is told how
+    /// far a has come.
+    fn reports_to(&mut self, a: usize, b: usize) -> Numbers {
+        self.servers[a].source = Some(b);
+        let report = self.servers[a].report_of(a);
+        self.servers[b].queue.receive(report);
+        Numbers::place(report.note.length)
     }
 
     fn writes(&mut self, a: usize, key: u8, value: u16) -> Answer {
@@ -151,7 +162,7 @@ impl Cluster {
         let server = &self.servers[a];
         refuse_if(server.role != Primary, NotPrimary)?;
         let mut above = (server.commit_point + 1..=server.log.length).rev();
-        let highest = above.find(|&position| self.passes(server, position));
+        let highest = above.find(|&position| self.passes(a, position));
         let commit_point = highest.ok_or(NothingPasses)?;
         self.servers[a].commit_point = commit_point;
         Ok(Numbers::place(commit_point))
@@ -168,6 +179,8 @@ impl Cluster {
         a.role = Secondary;
         a.commit_point = 0;
         a.cluster_time = a.applied_time();
+        a.forget_reports();
+        a.source = None;
         Ok(Numbers::NONE)
     }
 
@@ -221,5 +234,18 @@ impl Cluster {
         let entry = a.log.entry_of(position, term)?;
         refuse_if(a.commit_point < position, CommitPointBelow)?;
         Ok(Numbers::value(a.log.value_of(key, position), entry.time))
+    }
+
+    /// The oldest report is noted where it is greater than the note, and passed on as it came; a's
+    /// own term stays, whatever the report's is.
+    fn takes_report(&mut self, a: usize) -> Answer {
+        let a = self.server(a)?;
+        let report = a.queue.take_oldest().ok_or(QueueEmpty)?;
+        let note = &mut a.notes[report.who];
+        *note = report.note.max(*note);
+        if let Some(source) = a.passes_on_to() {
+            self.servers[source].queue.receive(report);
+        }
+        Ok(Numbers::NONE)
     }
 }

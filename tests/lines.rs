@@ -42,6 +42,7 @@ pub const MUST_BE_ZERO: [u16; KINDS] = [
     all_but(0),
     all_but(A),
     all_but(A | KEY | NUMBER | TERM),
+    all_but(A),
 ];
 
 /// Reads a line without its line feed; of a longer one its first 27 bytes are enough.
@@ -88,8 +89,9 @@ fn read_frame(frame: &[u8; FRAME]) -> Result<Step, Condition> {
         12 => Step::Acknowledged { a, count: set, position: number, term },
         13 => Step::ClocksAgree,
         14 => Step::WritesNothing { a },
-        // The table above has let pass no kind but 15 here.
-        _ => Step::NewestRead { a, key, position: number, term },
+        15 => Step::NewestRead { a, key, position: number, term },
+        // The table above has let pass no kind but 16 here.
+        _ => Step::TakesReport { a },
     })
 }
 
@@ -118,7 +120,7 @@ mod tests {
     fn the_table_is_the_rulings_table() {
         let rulings = [
             0x1ffc, 0x1ff4, 0x1ffc, 0x1ff8, 0x1ff8, 0x1ff8, 0x1f8c, 0x1ffc, 0x1ffc, 0x1ffc, 0x01ec,
-            0x01ec, 0x1e14, 0x1ffe, 0x1ffc, 0x1e0c,
+            0x01ec, 0x1e14, 0x1ffe, 0x1ffc, 0x1e0c, 0x1ffc,
         ];
         assert_eq!(MUST_BE_ZERO, rulings);
     }
@@ -130,17 +132,18 @@ mod tests {
         assert_eq!(read_line(b""), Err(WrongLength));
         assert_eq!(read_line(frame), Err(UnusedByte));
         assert_eq!(read_line(b"0C010002000003000400000000"), Err(WrongCharacter));
-        assert_eq!(read_line(b"10000000000000000000000000"), Err(UnknownKind));
+        assert_eq!(read_line(b"11000000000000000000000000"), Err(UnknownKind));
         let step = Step::Acknowledged { a: 1, count: 2, position: 0x304, term: 0x506 };
         assert_eq!(read_line(b"0c010002000304050600000000"), Ok(step));
     }
 
     #[test]
-    fn kinds_14_and_15_use_these_fields_alone() {
+    fn kinds_14_to_16_use_these_fields_alone() {
         assert_eq!(read_line(b"0e070000000000000000000000"), Ok(Step::WritesNothing { a: 7 }));
+        assert_eq!(read_line(b"10080000000000000000000000"), Ok(Step::TakesReport { a: 8 }));
         let step = Step::NewestRead { a: 1, key: 255, position: 0x304, term: 0x506 };
         assert_eq!(read_line(b"0f010000ff0304050600000000"), Ok(step));
-        for (kind, used) in [(14, vec![1]), (15, vec![1, 4, 5, 6, 7, 8])] {
+        for (kind, used) in [(14, vec![1]), (15, vec![1, 4, 5, 6, 7, 8]), (16, vec![1])] {
             for byte in 1..FRAME {
                 let mut line = [0; LINE];
                 let mut frame = [0; FRAME];

@@ -1,17 +1,18 @@
 //! One small replica set that can be run: the cluster record, its steps and what comes back; the
-//! sixteen kinds are in `kinds.rs`. Written from document 01, request [1] of document 02 and the
-//! rulings alone; `plain.rs` runs it over lines and `sessions.rs` steers by it. Record-level tests
-//! are in `model_tests.rs`.
+//! seventeen kinds are in `kinds.rs`, and what servers report to each other is in `reports.rs`.
+//! Written from document 01, requests [1] and [3] of document 02 and the rulings alone; `plain.rs`
+//! runs it over lines and `sessions.rs` steers by it. Record-level tests are in `model_tests.rs`.
 
 use self::Condition::*;
 use self::Role::*;
+use self::reports::{Note, Notes, Queue};
 
 /// The most servers a cluster has, and the number of places in the record.
 pub const SERVERS: usize = 7;
 /// The most entries a log holds.
 pub const ENTRIES: usize = 32;
 /// How many kinds of step there are.
-pub const KINDS: usize = 16;
+pub const KINDS: usize = 17;
 const KEY_MAX: u8 = 15;
 /// The key of the entries that write nothing, and of no others; it is neither written nor read.
 const KEY_OF_NOTHING: u8 = 255;
@@ -52,6 +53,10 @@ pub struct Server {
     pub commit_point: usize,
     pub wall_clock: u16,
     pub cluster_time: Time,
+    pub notes: Notes,
+    pub queue: Queue,
+    /// Whom it came after last, and passes reports on to.
+    pub source: Option<usize>,
 }
 
 #[derive(Clone, Copy, PartialEq, Eq, Debug)]
@@ -79,6 +84,7 @@ pub enum Step {
     ClocksAgree,
     WritesNothing { a: u8 },
     NewestRead { a: u8, key: u8, position: u16, term: u16 },
+    TakesReport { a: u8 },
 }
 
 /// The numbers of an answer to a step that was done.
@@ -126,6 +132,7 @@ pub enum Condition {
     LastTermNotBelow,
     ABeginning,
     NothingPasses,
+    QueueEmpty,
     LogFull,
     TermAtLimit,
     WallClockAtLimit,
@@ -154,7 +161,7 @@ impl Condition {
             NotPrimary | PrimaryOfOtherTerm | NotSecondary => 4,
             NotAMajority | OutsideItsSet | MemberTermAbove | BehindAMember => 5,
             NotShorter | LastEntryDiffers => 5,
-            LogEmpty | LastTermNotBelow | ABeginning | NothingPasses => 5,
+            LogEmpty | LastTermNotBelow | ABeginning | NothingPasses | QueueEmpty => 5,
             LogFull => 6,
             TermAtLimit | WallClockAtLimit | TickAtLimit => 7,
             AppliedTimeBefore | CommitTimeBefore | CommitPointBelow | FewerThanCount => 8,
@@ -273,6 +280,9 @@ impl Server {
         commit_point: 0,
         wall_clock: 0,
         cluster_time: Time::ZERO,
+        notes: [Note::UNUSED; SERVERS],
+        queue: Queue::EMPTY,
+        source: None,
     };
 
     const FRESH: Server = Server { wall_clock: 1, ..Server::ZERO };
@@ -293,13 +303,14 @@ impl Server {
     }
 
     /// The last entry bounds all terms and times, since neither falls along a log.
-    fn well_formed(&self) -> bool {
+    fn well_formed(&self, number: usize, count: usize) -> bool {
         self.log.well_formed()
             && self.log.last_term() <= self.term
             && self.applied_time() <= self.cluster_time
             && self.commit_point <= self.log.length
             && (self.role == Secondary || self.term >= 1)
             && self.wall_clock >= 1
+            && self.reports_well_formed(number, count)
     }
 }
 
@@ -341,6 +352,7 @@ impl Step {
             Step::ClocksAgree => 13,
             Step::WritesNothing { .. } => 14,
             Step::NewestRead { .. } => 15,
+            Step::TakesReport { .. } => 16,
         }
     }
 }
@@ -357,8 +369,9 @@ impl Cluster {
     }
 
     fn well_formed(&self) -> bool {
+        let counted = || self.counted().iter().enumerate();
         (2..=SERVERS).contains(&self.count)
-            && self.counted().iter().all(Server::well_formed)
+            && counted().all(|(number, server)| server.well_formed(number, self.count))
             && self.servers[self.count..].iter().all(|place| *place == Server::ZERO)
     }
 
@@ -391,16 +404,20 @@ impl Cluster {
         self.counted().iter().filter(holds).count()
     }
 
-    /// Whether a position above a's commit point and inside its log passes at a.
-    fn passes(&self, a: &Server, position: usize) -> bool {
-        let entry = &a.log.entries[position - 1];
-        let counts = |s: &&Server| s.term == a.term && s.log.entry(position) == Some(entry);
-        entry.term == a.term && self.is_majority(self.counted().iter().filter(counts).count())
+    /// Whether a position above a's commit point and inside its log passes at a, which counts
+    /// itself and whom its notes say so of; what it has noted of itself isn't looked at.
+    fn passes(&self, a: usize, position: usize) -> bool {
+        let Server { term, log, notes, .. } = &self.servers[a];
+        let backs = |b: usize| b == a || notes[b].reaches(*term, position);
+        let backers = (0..self.count).filter(|&b| backs(b)).count();
+        log.entries[position - 1].term == *term && self.is_majority(backers)
     }
 }
 
 #[path = "kinds.rs"]
 pub mod kinds;
+#[path = "reports.rs"]
+pub mod reports;
 
 pub use self::kinds::step;
 

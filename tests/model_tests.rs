@@ -1,5 +1,6 @@
 //! Record-level tests of the model: document 01's twelve facts, and the cases that no lines reach
-//! from a fresh start. Those of kinds 14 and 15 are in `newest_tests.rs`.
+//! from a fresh start. Those of kinds 14 and 15 are in `newest_tests.rs`, those of reports in
+//! `reports_tests.rs`.
 
 use super::*;
 
@@ -25,6 +26,24 @@ fn holding(terms: &[u16]) -> Server {
 
 fn primary(term: u16, terms: &[u16]) -> Server {
     Server { term, role: Primary, ..holding(terms) }
+}
+
+fn note(term: u16, last_term: u16, length: usize) -> Note {
+    Note { term, last_term, length }
+}
+
+/// The server with these notes, each of the server of that number.
+fn noting(server: Server, notes: &[(usize, Note)]) -> Server {
+    let mut server = server;
+    for &(who, note) in notes {
+        server.notes[who] = note;
+    }
+    server
+}
+
+/// The server with that source.
+fn coming_after(source: usize, server: Server) -> Server {
+    Server { source: Some(source), ..server }
 }
 
 fn cluster(servers: &[Server]) -> Cluster {
@@ -111,18 +130,10 @@ fn logs_side_by_side() {
 
 #[test]
 fn entries_of_earlier_terms_do_not_pass() {
-    let other = Server { term: 4, ..holding(&[1, 2]) };
-    let servers = [primary(4, &[1, 2, 4]), other, other, holding(&[]), holding(&[])];
+    let older = note(4, 2, 2);
+    let leader = noting(primary(4, &[1, 2, 4]), &[(1, older), (2, older)]);
+    let servers = [leader, holding(&[]), holding(&[]), holding(&[]), holding(&[])];
     assert_eq!(refused(&servers, Step::Advances { a: 0 }), NothingPasses);
-}
-
-#[test]
-fn members_of_a_later_term_do_not_count() {
-    let (current, later) = (holding(&[4]), Server { term: 5, ..holding(&[4]) });
-    let advances = Step::Advances { a: 0 };
-    assert_eq!(refused(&[primary(4, &[4]), later, later], advances), NothingPasses);
-    let advanced = after(&[primary(4, &[4]), current, later], advances);
-    assert_eq!(advanced.servers[0].commit_point, 1);
 }
 
 #[test]
@@ -201,7 +212,7 @@ fn a_pull_keeps_its_own_beginning() {
     let own = Entry { value: 7, ..entry(1, 1) };
     let puller = with(&holding(&[1, 2]), 1, own);
     let pulled = after(&[puller, holding(&[1, 2, 3])], Step::Pulls { a: 0, b: 1 });
-    assert_eq!(pulled.servers[0], with(&holding(&[1, 2, 3]), 1, own));
+    assert_eq!(pulled.servers[0], coming_after(1, with(&holding(&[1, 2, 3]), 1, own)));
 }
 
 #[test]
@@ -210,11 +221,11 @@ fn a_pull_and_a_rollback_take_the_greater_of_both() {
         Server { term: 9, cluster_time: Time { p: 9, l: 9 }, commit_point: 1, ..holding(&[1]) };
     let behind = Server { commit_point: 0, cluster_time: Time { p: 9, l: 8 }, ..holding(&[1, 2]) };
     let pulled = after(&[ahead, behind], Step::Pulls { a: 0, b: 1 });
-    assert_eq!(pulled.servers[0], Server { log: log(&[1, 2]), ..ahead });
+    assert_eq!(pulled.servers[0], coming_after(1, Server { log: log(&[1, 2]), ..ahead }));
     let split = Server { term: 3, log: log(&[1, 2]), commit_point: 0, ..ahead };
     let winner = Server { term: 4, commit_point: 2, ..holding(&[1, 3]) };
     let rolled = after(&[split, winner], Step::RollsBack { a: 0, b: 1 });
-    assert_eq!(rolled.servers[0], winner);
+    assert_eq!(rolled.servers[0], coming_after(1, winner));
 }
 
 #[test]
@@ -232,20 +243,9 @@ fn an_equal_entry_above_the_first_difference_is_not_common() {
     let rolls_back = Step::RollsBack { a: 0, b: 1 };
     let loser = with(&holding(&[1, 2, 2]), 1, Entry { value: 7, ..entry(1, 1) });
     let winner = holding(&[1, 2, 3]);
-    assert_eq!(after(&[loser, winner], rolls_back).servers[0], winner);
+    assert_eq!(after(&[loser, winner], rolls_back).servers[0], coming_after(1, winner));
     let committed = Server { commit_point: 1, ..loser };
     assert_eq!(refused(&[committed, winner], rolls_back), CommonBelowCommitPoint);
-}
-
-#[test]
-fn only_equal_entries_count_for_a_commit_point() {
-    let advances = Step::Advances { a: 0 };
-    let leader = primary(2, &[2]);
-    assert_eq!(after(&[leader, holding(&[2])], advances).servers[0].commit_point, 1);
-    for other in &others(entry(2, 1))[1..] {
-        let servers = [leader, with(&holding(&[2]), 1, *other)];
-        assert_eq!(refused(&servers, advances), NothingPasses);
-    }
 }
 
 #[test]
@@ -263,8 +263,8 @@ fn only_equal_entries_are_acknowledged() {
 
 #[test]
 fn the_highest_passing_position_is_taken() {
-    let servers = [primary(2, &[1, 2, 2, 2]), holding(&[1, 2, 2]), holding(&[1, 2])];
-    let advanced = after(&servers, Step::Advances { a: 0 });
+    let leader = noting(primary(2, &[1, 2, 2, 2]), &[(1, note(2, 2, 3)), (2, note(2, 2, 2))]);
+    let advanced = after(&[leader, holding(&[]), holding(&[])], Step::Advances { a: 0 });
     assert_eq!(advanced.servers[0].commit_point, 3);
     assert_eq!(refused(advanced.counted(), Step::Advances { a: 0 }), NothingPasses);
 }
@@ -338,7 +338,7 @@ const BROKEN: &[fn(&mut Cluster)] = &[
 ];
 
 /// One step of each kind that looks at the record.
-const LOOKING: [Step; 15] = [
+const LOOKING: [Step; 16] = [
     Step::Elect { a: 0, set: 3 },
     Step::StepDown { a: 0 },
     Step::Hears { a: 0, b: 1 },
@@ -354,13 +354,20 @@ const LOOKING: [Step; 15] = [
     Step::ClocksAgree,
     Step::WritesNothing { a: 0 },
     Step::NewestRead { a: 0, key: 5, position: 2, term: 2 },
+    Step::TakesReport { a: 0 },
 ];
 
 #[test]
 fn each_broken_clause_is_refusal_2() {
     let whole = cluster(&[primary(2, &[1, 2, 2]), Server { term: 0, ..holding(&[]) }]);
+    is_refused_where_broken(&whole, BROKEN);
+}
+
+/// Every step that looks at the record refuses each of these with 2 and leaves it.
+fn is_refused_where_broken(whole: &Cluster, broken: &[fn(&mut Cluster)]) {
+    let whole = *whole;
     assert!(whole.well_formed());
-    for (number, breaks) in BROKEN.iter().enumerate() {
+    for (number, breaks) in broken.iter().enumerate() {
         let mut broken = whole;
         breaks(&mut broken);
         for taken in &LOOKING {
@@ -400,3 +407,5 @@ fn every_step_from_an_odd_record_keeps_it_well_formed() {
 
 #[path = "newest_tests.rs"]
 mod newest;
+#[path = "reports_tests.rs"]
+mod reported;

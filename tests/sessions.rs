@@ -6,6 +6,7 @@ mod frames;
 mod junk;
 mod lines;
 mod model;
+mod relays;
 
 use frames::{frame_of, line_of};
 use junk::Prng;
@@ -183,11 +184,15 @@ impl Run {
     fn session(&mut self, last: usize) {
         let end = last.min(self.written + 20 + self.prng.below(300));
         self.begin();
+        if self.prng.one_in(2) {
+            self.relay();
+        }
         while self.written < end {
             match self.prng.below(1_000) {
                 0 => self.fill(),
                 1..=15 => self.split(),
                 16..=55 => self.replicate(),
+                56..=65 => self.relay(),
                 _ => self.ordinary(),
             }
         }
@@ -242,11 +247,18 @@ impl Run {
         self.offer(read);
     }
 
+    /// Brings a after b by what is allowed, if anything is.
+    fn come_after(&mut self, a: u8, b: u8) {
+        if !self.offer(Step::Pulls { a, b }) {
+            self.offer(Step::RollsBack { a, b });
+        }
+    }
+
     /// About half of the servers come after the one they are given.
     fn follow(&mut self, b: u8) {
         for a in (0..self.count() as u8).filter(|&a| a != b) {
-            if self.prng.one_in(2) && !self.offer(Step::Pulls { a, b }) {
-                self.offer(Step::RollsBack { a, b });
+            if self.prng.one_in(2) {
+                self.come_after(a, b);
             }
         }
     }
@@ -256,6 +268,7 @@ impl Run {
         let a = self.primary();
         self.write_some(a);
         self.follow(a);
+        self.take_in(a);
         self.offer(Step::Advances { a });
         self.write_some(a);
         self.ask_newest(a);
@@ -277,7 +290,9 @@ impl Run {
         self.write_some(old);
         self.write_some(new);
         self.follow(new);
+        self.take_in(new);
         self.offer(Step::Advances { a: new });
+        self.take_in(old);
         self.offer(Step::Advances { a: old });
         self.write_some(old);
         self.ask_newest(old);
@@ -287,6 +302,7 @@ impl Run {
         self.offer(Step::RollsBack { a: old, b: new });
         self.write_some(new);
         self.follow(new);
+        self.take_in(new);
         self.offer(Step::Advances { a: new });
     }
 
@@ -299,6 +315,7 @@ impl Run {
             self.say(entry);
         }
         self.follow(a);
+        self.take_in(a);
         self.offer(Step::Advances { a });
         self.ask_newest(a);
     }
@@ -345,6 +362,7 @@ impl Run {
             let one_in = if top(self) < limit - NEAR { 512 } else { 3 };
             if self.prng.one_in(one_in) { self.ordinary() } else { (climb.raise)(self) }
         }
+        (climb.raise)(self);
         for _ in 0..AFTER_CLIMB {
             self.ordinary();
         }

@@ -1,8 +1,8 @@
 //! The tally of a run: how often each kind was done and how often each condition refused, and
 //! whether everything that lines can reach was reached.
 
-use self::Sight::*;
-use crate::model::{Answer, CONDITIONS, Cluster, Condition, Condition::*, KINDS, Numbers, Step};
+use crate::model::{Answer, CONDITIONS, Cluster, Condition, Condition::*, KINDS, Step};
+use crate::sights::{SIGHTS, Sight, Taken, Trails};
 use std::io::{self, Write};
 
 /// One row a kind, and a last one for lines that are no frame.
@@ -105,6 +105,7 @@ const LISTS: [(&str, &[Condition]); ROWS] = [
             CommitPointBelow,
         ],
     ),
+    ("takes report", &[NotWellFormed, ServerOutside, QueueEmpty]),
     ("no frame", &[WrongLength, WrongCharacter, UnknownKind, UnusedByte]),
 ];
 
@@ -120,93 +121,57 @@ const UNREACHABLE: [(usize, Condition); 3] = [
     (14, TickAtLimit),
 ];
 
-/// What else has to occur among the steps of a kind that were done: without it, lines wouldn't tell
-/// some wrong program from a right one.
-#[derive(Clone, Copy, Debug)]
-enum Sight {
-    AboutNothing,
-    AboutAWrite,
-    AtAnOvertakenPrimary,
-    ShowsAValue,
-    NotTheCommittedValue,
-    NotTheLogsValue,
-}
-
-const SIGHTS: [(usize, Sight); 8] = [
-    (12, AboutNothing),
-    (14, AtAnOvertakenPrimary),
-    (15, AboutNothing),
-    (15, AboutAWrite),
-    (15, AtAnOvertakenPrimary),
-    (15, ShowsAValue),
-    (15, NotTheCommittedValue),
-    (15, NotTheLogsValue),
-];
-
-impl Sight {
-    /// Whether it is in a step that was done with these numbers; the cluster is the one after it.
-    fn is_in(self, step: &Step, numbers: &Numbers, cluster: &Cluster) -> bool {
-        let (a, key, position) = match *step {
-            Step::Acknowledged { a, position, .. } => (a, 0, position),
-            Step::WritesNothing { a } => (a, 0, numbers.number),
-            Step::NewestRead { a, key, position, .. } => (a, key, position),
-            _ => return false,
-        };
-        let server = &cluster.servers[usize::from(a)];
-        let entry = server.log.entry(position.into());
-        let differs = |among: usize| server.log.value_of(key, among) != numbers.number;
-        match self {
-            AboutNothing => entry.is_some_and(|entry| entry.writes_nothing()),
-            AboutAWrite => entry.is_some_and(|entry| !entry.writes_nothing()),
-            AtAnOvertakenPrimary => cluster.counted().iter().any(|s| s.term > server.term),
-            ShowsAValue => numbers.number != 0,
-            NotTheCommittedValue => differs(server.commit_point),
-            NotTheLogsValue => differs(server.log.length),
-        }
-    }
-}
-
 pub struct Tally {
     done: [u64; ROWS],
     refused: [[u64; CONDITIONS]; ROWS],
     seen: [u64; SIGHTS.len()],
+    trails: Trails,
 }
 
 impl Tally {
-    pub const NONE: Tally =
-        Tally { done: [0; ROWS], refused: [[0; CONDITIONS]; ROWS], seen: [0; SIGHTS.len()] };
+    pub const NONE: Tally = Tally {
+        done: [0; ROWS],
+        refused: [[0; CONDITIONS]; ROWS],
+        seen: [0; SIGHTS.len()],
+        trails: Trails::NONE,
+    };
 
-    /// Counts the answer to a line, whose step is none where it is no frame; the cluster is the one
-    /// after it.
-    pub fn count(&mut self, step: Option<Step>, answer: Answer, cluster: &Cluster) {
+    /// Counts the answer to a line, whose step is none where it is no frame; the clusters are those
+    /// before and after it.
+    pub fn count(&mut self, step: Option<Step>, answer: Answer, [before, after]: [&Cluster; 2]) {
         let row = step.map_or(NO_FRAME, |step| step.kind().into());
         match answer {
             Ok(_) => self.done[row] += 1,
             Err(condition) => self.refused[row][condition as usize] += 1,
         }
-        if let (Some(step), Ok(numbers)) = (step, answer) {
-            for (times, (kind, sight)) in self.seen.iter_mut().zip(SIGHTS) {
-                *times += u64::from(kind == row && sight.is_in(&step, &numbers, cluster));
-            }
+        let Some(step) = step else { return };
+        let passed_on = if answer.is_ok() { self.trails.follow(&step, after) } else { 0 };
+        let taken = Taken { step, answer, before, after, passed_on };
+        for (times, (kind, ended, _, is_seen)) in self.seen.iter_mut().zip(SIGHTS) {
+            let applies = *kind == row && *ended == answer.map(|_| ());
+            *times += u64::from(applies && is_seen(&taken));
         }
     }
 
-    /// How often each sight of a row was seen.
-    fn seen_in(&self, row: usize) -> impl Iterator<Item = (Sight, u64)> + '_ {
-        let seen = SIGHTS.iter().zip(&self.seen);
-        seen.filter(move |((kind, _), _)| *kind == row).map(|((_, sight), times)| (*sight, *times))
+    /// The names of the sights in steps of a row that ended so, and how often each was seen.
+    fn seen_in(
+        &self,
+        row: usize,
+        ended: Result<(), Condition>,
+    ) -> impl Iterator<Item = (&'static str, u64)> + '_ {
+        let applies = move |(sight, _): &(&Sight, &u64)| (sight.0, sight.1) == (row, ended);
+        SIGHTS.iter().zip(&self.seen).filter(applies).map(|(sight, times)| (sight.2, *times))
     }
 
     /// Writes the tally, then what is amiss; true where nothing is.
     pub fn write(&self, output: &mut impl Write) -> io::Result<bool> {
         for (row, (kind, list)) in LISTS.iter().enumerate() {
             writeln!(output, "{row:2} {kind}: {} done", self.done[row])?;
-            for (sight, times) in self.seen_in(row) {
-                writeln!(output, "        {sight:?} {times}")?;
-            }
+            self.write_seen(output, row, Ok(()))?;
             for &condition in *list {
                 let times = self.refused[row][condition as usize];
                 writeln!(output, "     {:2} {condition:?} {times}", condition.number())?;
+                self.write_seen(output, row, Err(condition))?;
             }
         }
         self.write_share(output)?;
@@ -215,6 +180,18 @@ impl Tally {
             writeln!(output, "{line}")?;
         }
         Ok(amiss.is_empty())
+    }
+
+    fn write_seen(
+        &self,
+        output: &mut impl Write,
+        row: usize,
+        ended: Result<(), Condition>,
+    ) -> io::Result<()> {
+        for (sight, times) in self.seen_in(row, ended) {
+            writeln!(output, "        {times} {sight}")?;
+        }
+        Ok(())
     }
 
     fn write_share(&self, output: &mut impl Write) -> io::Result<()> {
@@ -227,13 +204,17 @@ impl Tally {
 
     /// Everything that should have occurred and didn't, or the other way round.
     fn amiss(&self) -> Vec<String> {
-        let mut amiss = Vec::new();
+        let unseen = SIGHTS.iter().zip(&self.seen).filter(|(_, times)| **times == 0);
+        let never = |(kind, ended, sight, _): &Sight| {
+            let how =
+                ended.map_or_else(|condition| format!("{condition:?}"), |()| "done".to_string());
+            format!("never: {} {how} {sight}", LISTS[*kind].0)
+        };
+        let mut amiss: Vec<String> = unseen.map(|(sight, _)| never(sight)).collect();
         for (row, (kind, list)) in LISTS.iter().enumerate() {
             if row != NO_FRAME && self.done[row] == 0 {
                 amiss.push(format!("never: {kind} done"));
             }
-            let never = self.seen_in(row).filter(|(_, times)| *times == 0);
-            amiss.extend(never.map(|(sight, _)| format!("never: {kind} done, {sight:?}")));
             for &condition in *list {
                 let reachable = !UNREACHABLE.contains(&(row, condition));
                 let occurred = self.refused[row][condition as usize] > 0;

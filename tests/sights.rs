@@ -1,0 +1,290 @@
+//! What a tally looks for in steps besides their answers: without it, lines wouldn't tell some
+//! wrong program from a right one.
+
+use self::Place::*;
+use crate::model::reports::{Note, Report};
+use crate::model::{Answer, Cluster, Condition, Condition::*, Entry, Role::*, SERVERS};
+use crate::model::{Server, Step};
+use std::cmp::Ordering::{self, *};
+
+/// A step with its answer and the record on both sides of it.
+pub struct Taken<'a> {
+    pub step: Step,
+    pub answer: Answer,
+    pub before: &'a Cluster,
+    pub after: &'a Cluster,
+    /// How often the report that was taken has now been passed on, if it was this time.
+    pub passed_on: usize,
+}
+
+/// A kind, how its step ended, a name, and whether it is to be seen in such a step.
+pub type Sight = (usize, Result<(), Condition>, &'static str, fn(&Taken) -> bool);
+
+const DONE: Result<(), Condition> = Ok(());
+const NONE_PASSES: Result<(), Condition> = Err(NothingPasses);
+
+pub const SIGHTS: &[Sight] = &[
+    (1, DONE, "with notes to empty", |t| has_notes(t.a())),
+    (1, DONE, "with reports to empty", |t| has_reports(t.a())),
+    (1, DONE, "with a source to keep", |t| t.a().source.is_some()),
+    (1, DONE, "again, by a primary with notes", |t| t.a().role == Primary && has_notes(t.a())),
+    (1, DONE, "beside an older primary's notes", |t| t.older_primaries().any(has_notes)),
+    (1, DONE, "beside an older primary's reports", |t| t.older_primaries().any(has_reports)),
+    (2, DONE, "with reports to pass on now", |t| has_reports(t.a()) && t.a().source.is_some()),
+    (3, DONE, "secondary now, with reports to pass on", |t| {
+        let stepped_down = t.a().role == Primary && t.a_after().role == Secondary;
+        stepped_down && has_reports(t.a()) && t.a().source.is_some()
+    }),
+    (4, DONE, "to a full queue", |t| t.b().queue.is_full()),
+    (4, DONE, "to a primary", |t| t.b().role == Primary),
+    (4, DONE, "to one that passes on", |t| t.b().passes_on_to().is_some()),
+    (4, DONE, "into a later term", |t| t.a().term < t.b().term),
+    (4, DONE, "while in a later term", |t| t.a().term > t.b().term),
+    (4, DONE, "from one source to another", |t| t.changes_source()),
+    (4, DONE, "closes a loop", |t| t.b().source == Some(t.number())),
+    (5, DONE, "to a full queue", |t| t.b().queue.is_full()),
+    (5, DONE, "to a primary", |t| t.b().role == Primary),
+    (5, DONE, "to one that passes on", |t| t.b().passes_on_to().is_some()),
+    (5, DONE, "into a later term", |t| t.a().term < t.b().term),
+    (5, DONE, "while in a later term", |t| t.a().term > t.b().term),
+    (5, DONE, "from one source to another", |t| t.changes_source()),
+    (5, DONE, "closes a loop", |t| t.b().source == Some(t.number())),
+    (7, DONE, "at an overtaken primary", |t| t.is_overtaken()),
+    (7, DONE, "only by one in a later term now", |t| !t.passes_by(|b| b.term == t.a().term)),
+    (7, DONE, "only by one restarted since", |t| !t.passes_by(|b| b.source.is_some())),
+    (7, DONE, "only by one of another source", |t| {
+        !t.passes_by(|b| b.source.is_none_or(|source| source == t.number()))
+    }),
+    (7, DONE, "with a note about itself", |t| t.a().notes[t.number()].is_used()),
+    (7, DONE, "below what most hold", |t| t.held_by_most() > Some(t.a_after().commit_point)),
+    (7, NONE_PASSES, "but is held by most", |t| t.held_by_most().is_some()),
+    (7, NONE_PASSES, "but for notes of an older term", |t| {
+        t.passes_with(|note| note.term < t.a().term)
+    }),
+    (7, NONE_PASSES, "but for notes of a later term", |t| {
+        t.passes_with(|note| note.term > t.a().term && note.last_term == t.a().term)
+    }),
+    (7, NONE_PASSES, "but for notes of an older last term", |t| {
+        t.passes_with(|note| note.term == t.a().term && note.last_term < note.term)
+    }),
+    (9, DONE, "with notes to empty", |t| has_notes(t.a())),
+    (9, DONE, "with reports to empty", |t| has_reports(t.a())),
+    (9, DONE, "with a source to forget", |t| t.a().source.is_some()),
+    (9, DONE, "while a report of its own waits", |t| t.is_reported_on()),
+    (12, DONE, "about nothing", |t| t.entry().is_some_and(Entry::writes_nothing)),
+    (14, DONE, "at an overtaken primary", |t| t.is_overtaken()),
+    (15, DONE, "about nothing", |t| t.entry().is_some_and(Entry::writes_nothing)),
+    (15, DONE, "about a write", |t| t.entry().is_some_and(|entry| !entry.writes_nothing())),
+    (15, DONE, "at an overtaken primary", |t| t.is_overtaken()),
+    (15, DONE, "shows a value", |t| t.shown() != 0),
+    (15, DONE, "not the committed value", |t| t.shown() != t.read(t.a().commit_point)),
+    (15, DONE, "not the log's value", |t| t.shown() != t.read(t.a().log.length)),
+    (16, DONE, "by a primary with a source", |t| t.a().role == Primary && t.a().source.is_some()),
+    (16, DONE, "with nowhere to go", |t| t.a().role == Secondary && t.a().source.is_none()),
+    (16, DONE, "passed on to a full queue", |t| t.next().is_some_and(|b| b.queue.is_full())),
+    (16, DONE, "passed on to a primary", |t| t.next().is_some_and(|b| b.role == Primary)),
+    (16, DONE, "passed on a second time", |t| t.next().is_some() && t.passed_on == 2),
+    (16, DONE, "passed on a third time", |t| t.next().is_some() && t.passed_on == 3),
+    (16, DONE, "passed on round a loop", |t| {
+        t.next().is_some_and(|b| b.passes_on_to() == Some(t.number()))
+    }),
+    (16, DONE, "passed on about itself", |t| t.next().is_some() && t.reported() == t.number()),
+    (16, DONE, "about the primary", |t| t.a().role == Primary && t.reported() == t.number()),
+    (16, DONE, "about one restarted since", |t| t.before.servers[t.reported()].source.is_none()),
+    (16, DONE, "of a later term", |t| t.report().note.term > t.a().term),
+    (16, DONE, "a primary's note rises by term", |t| t.primary_notes(Greater, Term)),
+    (16, DONE, "a primary's note rises by last term", |t| t.primary_notes(Greater, LastTerm)),
+    (16, DONE, "a primary's note rises by length", |t| t.primary_notes(Greater, Length)),
+    (16, DONE, "a primary's note stays by term", |t| t.primary_notes(Less, Term)),
+    (16, DONE, "a primary's note stays by last term", |t| t.primary_notes(Less, LastTerm)),
+    (16, DONE, "a primary's note stays by length", |t| t.primary_notes(Less, Length)),
+    (16, DONE, "as noted already", |t| t.report().note == t.note()),
+];
+
+/// The places in which a report is compared with a note.
+#[derive(Clone, Copy, PartialEq, Eq, Debug)]
+enum Place {
+    Term,
+    LastTerm,
+    Length,
+}
+
+fn has_notes(server: &Server) -> bool {
+    server.notes.iter().any(Note::is_used)
+}
+
+fn has_reports(server: &Server) -> bool {
+    server.queue.length > 0
+}
+
+/// A step's a and b, 0 where it has none.
+fn numbers_of(step: &Step) -> (usize, usize) {
+    let (a, b) = match *step {
+        Step::Start { .. } | Step::ClocksAgree => (0, 0),
+        Step::Hears { a, b } | Step::Pulls { a, b } | Step::RollsBack { a, b } => (a, b),
+        Step::Elect { a, .. }
+        | Step::StepDown { a }
+        | Step::Writes { a, .. }
+        | Step::Advances { a }
+        | Step::WallClock { a }
+        | Step::Restarts { a }
+        | Step::LocalRead { a, .. }
+        | Step::MajorityRead { a, .. }
+        | Step::Acknowledged { a, .. }
+        | Step::WritesNothing { a }
+        | Step::NewestRead { a, .. }
+        | Step::TakesReport { a } => (a, 0),
+    };
+    (a.into(), b.into())
+}
+
+/// The servers of the step; numbers out of range were refused otherwise than sights are about.
+impl Taken<'_> {
+    fn number(&self) -> usize {
+        numbers_of(&self.step).0
+    }
+
+    fn a(&self) -> &Server {
+        &self.before.servers[self.number()]
+    }
+
+    fn a_after(&self) -> &Server {
+        &self.after.servers[self.number()]
+    }
+
+    fn b(&self) -> &Server {
+        &self.before.servers[numbers_of(&self.step).1]
+    }
+
+    fn changes_source(&self) -> bool {
+        self.a().source.is_some() && self.a().source != self.a_after().source
+    }
+
+    fn is_overtaken(&self) -> bool {
+        self.before.counted().iter().any(|server| server.term > self.a().term)
+    }
+
+    /// Whom the election of a leaves primary.
+    fn older_primaries(&self) -> impl Iterator<Item = &Server> {
+        let term = self.a_after().term;
+        self.after.counted().iter().filter(move |b| b.role == Primary && b.term < term)
+    }
+
+    fn is_reported_on(&self) -> bool {
+        let queues = self.before.counted().iter().map(|server| &server.queue);
+        let mut reports = queues.flat_map(|queue| &queue.reports[..queue.length]);
+        reports.any(|report| report.who == self.number())
+    }
+}
+
+/// What reads and commit points are about.
+impl Taken<'_> {
+    fn entry(&self) -> Option<&Entry> {
+        match self.step {
+            Step::Acknowledged { position, .. } | Step::NewestRead { position, .. } => {
+                self.a().log.entry(position.into())
+            }
+            _ => None,
+        }
+    }
+
+    fn shown(&self) -> u16 {
+        self.answer.map_or(0, |numbers| numbers.number)
+    }
+
+    /// What the same read would show among the first so many entries.
+    fn read(&self, among: usize) -> u16 {
+        let Step::NewestRead { key, .. } = self.step else { return 0 };
+        self.a().log.value_of(key, among)
+    }
+
+    /// The highest position, above the commit point and of a's term, where this is a majority.
+    fn highest(&self, backers: impl Fn(usize) -> usize) -> Option<usize> {
+        let (a, log) = (self.a(), &self.a().log);
+        let of_term = |n: &usize| log.entry(*n).is_some_and(|entry| entry.term == a.term);
+        let mut above = (a.commit_point + 1..=log.length).rev().filter(of_term);
+        above.find(|&n| self.before.is_majority(backers(n)))
+    }
+
+    /// The highest position that would pass if a could see into the others' logs.
+    fn held_by_most(&self) -> Option<usize> {
+        let a = self.a();
+        let holds = |b: &Server, n: usize| b.term == a.term && b.log.entry(n) == a.log.entry(n);
+        self.highest(|n| self.before.counted().iter().filter(|b| holds(b, n)).count())
+    }
+
+    /// How many back a position: a, and every other counted server of which this holds.
+    fn backers(&self, backs: impl Fn(&Server, &Note) -> bool) -> usize {
+        let others = self.before.counted().iter().zip(&self.a().notes).enumerate();
+        1 + others.filter(|(i, (b, note))| *i != self.number() && backs(b, note)).count()
+    }
+
+    /// Whether the new commit point would have passed if only such servers' notes counted.
+    fn passes_by(&self, counts: impl Fn(&Server) -> bool) -> bool {
+        let (term, position) = (self.a().term, self.a_after().commit_point);
+        let backers = self.backers(|b, note| note.reaches(term, position) && counts(b));
+        self.before.is_majority(backers)
+    }
+
+    /// Whether something would pass if such notes counted as well.
+    fn passes_with(&self, counts: impl Fn(&Note) -> bool) -> bool {
+        let term = self.a().term;
+        let backs =
+            |note: &Note, n: usize| note.reaches(term, n) || counts(note) && note.length >= n;
+        self.highest(|n| self.backers(|_, note| backs(note, n))).is_some()
+    }
+}
+
+/// What a report is about, and where it goes.
+impl Taken<'_> {
+    fn report(&self) -> Report {
+        self.a().queue.reports[0]
+    }
+
+    fn reported(&self) -> usize {
+        self.report().who
+    }
+
+    /// Whom it is passed on to, lost there or not.
+    fn next(&self) -> Option<&Server> {
+        self.a().passes_on_to().map(|source| &self.before.servers[source])
+    }
+
+    /// What a has noted so far of whom the report is about.
+    fn note(&self) -> Note {
+        self.a().notes[self.reported()]
+    }
+
+    /// Whether a is primary and has a note already from which the report differs first in this
+    /// place, and so.
+    fn primary_notes(&self, order: Ordering, place: Place) -> bool {
+        let (report, note) = (self.report().note, self.note());
+        let places = [
+            (report.term.cmp(&note.term), Term),
+            (report.last_term.cmp(&note.last_term), LastTerm),
+            (report.length.cmp(&note.length), Length),
+        ];
+        let differs = places.iter().find(|(order, _)| *order != Equal);
+        self.a().role == Primary && note.is_used() && differs == Some(&(order, place))
+    }
+}
+
+/// Beside each queue, how often each report in it was passed on.
+pub struct Trails([Vec<usize>; SERVERS]);
+
+impl Trails {
+    pub const NONE: Trails = Trails([const { Vec::new() }; SERVERS]);
+
+    /// Follows a step that was done, which lengthens one queue by one report at most, or empties
+    /// queues. Gives how often a report that it took has been passed on, if it was.
+    pub fn follow(&mut self, step: &Step, after: &Cluster) -> usize {
+        let passed_on = match step {
+            Step::TakesReport { a } => 1 + self.0[usize::from(*a)].remove(0),
+            _ => 0,
+        };
+        for (trail, server) in self.0.iter_mut().zip(&after.servers) {
+            trail.resize(server.queue.length, passed_on);
+        }
+        passed_on
+    }
+}
