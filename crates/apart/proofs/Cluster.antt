@@ -9,10 +9,13 @@ use Rattle.base.specs.Lists.{eachFrom}
 use Rattle.clock.specs.Times.{zeroTime, isBefore, sameTime}
 use Rattle.log.specs.Entries.{sameEntry, entryAt}
 use Rattle.log.specs.Order.{entryOk, follows, placeOk, inOrder, restZero, logOk}
-use Rattle.cluster.specs.Servers.{mostServers, zeroServer, freshServer, zeroCluster, startedOf, freshCluster, serverAt, withServer, votedOf, electedAll, clockedOf, clocksSet}
+use Rattle.mail.specs.Reports.{zeroNote, noteOf}
+use Rattle.mail.specs.Mails.{zeroMail, noteAt, withSource}
+use Rattle.mail.specs.Order.{isUnused, isUsed, noteOk, notesOk, slotOk, queueOk, sourceOk, mailOk}
+use Rattle.cluster.specs.Servers.{mostServers, withMail, zeroServer, freshServer, zeroCluster, startedOf, freshCluster, serverAt, withServer, votedOf, electedAll, clockedOf, clocksSet}
 use Rattle.cluster.specs.Sets.{member, membersOf, isWithin, isMajority}
 use Rattle.cluster.specs.WellFormed.{numbersOk, countedOk, zeroOk, serverOk, wellFormed}
-use Rattle.apart.proofs.Things.{at, x, server, holder, leader, covering, clocked, timed, two, F2}
+use Rattle.apart.proofs.Things.{at, x, f, noting, server, holder, leader, covering, clocked, timed, two, F2}
 
 pub fresh-server-with-wall-clock-0 : freshServer .head .wall ≡ 1
 fresh-server-with-wall-clock-0 = refl
@@ -56,6 +59,14 @@ pub voted-gives-everybody-the-term : votedOf 0 1 1 1 freshServer .head .term ≡
 unfolding member votedOf
 voted-gives-everybody-the-term = refl
 
+pub a-winner-keeps-its-notes : noteAt (votedOf 0 3 1 0 (withMail freshServer (noting (noteOf f ∷ []))) .mail) 0 ≡ zeroNote
+unfolding member votedOf
+a-winner-keeps-its-notes = refl
+
+pub everybody-is-emptied : noteAt (votedOf 0 3 1 1 (withMail freshServer (noting (noteOf f ∷ []))) .mail) 0 ≡ noteOf f
+unfolding member votedOf
+everybody-is-emptied = refl
+
 pub elect-changes-a-alone : serverAt (electedAll F2 0 3 1) 1 .head .term ≡ 1
 unfolding eachFrom startedOf member votedOf
 elect-changes-a-alone = refl
@@ -92,20 +103,24 @@ pub zero-without-the-time : zeroOk (server 0 false 0 0 (at 0 1) []) ≡ false
 unfolding every sameTime sameEntry restZero zeroOk
 zero-without-the-time = refl
 
-pub server-ok-exchanges-the-cases : serverOk true freshServer ≡ true
-unfolding every isBefore sameTime sameEntry entryAt inOrder restZero logOk numbersOk countedOk serverOk
+pub server-ok-exchanges-the-cases : serverOk 2 0 freshServer ≡ true
+unfolding every isBefore sameTime sameEntry entryAt inOrder restZero logOk isUnused isUsed noteOk notesOk slotOk queueOk sourceOk mailOk numbersOk countedOk serverOk
 server-ok-exchanges-the-cases = refl
 
-pub server-ok-counts-every-server : serverOk false freshServer ≡ false
+pub server-ok-counts-every-server : serverOk 2 2 freshServer ≡ false
 unfolding every sameTime sameEntry restZero zeroOk serverOk
 server-ok-counts-every-server = refl
+
+pub server-ok-without-its-mail : serverOk 2 0 (withMail freshServer (withSource zeroMail 1)) ≡ false
+unfolding every isBefore sameTime sameEntry entryAt inOrder restZero logOk isUnused isUsed noteOk notesOk slotOk queueOk sourceOk mailOk numbersOk countedOk serverOk
+server-ok-without-its-mail = refl
 
 pub well-formed-of-count-8 : wellFormed (record { count = 8; servers = replicate 7 freshServer }) ≡ false
 unfolding wellFormed
 well-formed-of-count-8 = refl
 
 pub well-formed-by-counted-servers : wellFormed (withServer F2 2 freshServer) ≡ false
-unfolding every eachFrom isBefore sameTime sameEntry entryAt inOrder restZero logOk startedOf numbersOk countedOk zeroOk serverOk wellFormed
+unfolding every eachFrom isBefore sameTime sameEntry entryAt inOrder restZero logOk isUnused isUsed noteOk notesOk slotOk queueOk sourceOk mailOk startedOf numbersOk countedOk zeroOk serverOk wellFormed
 well-formed-by-counted-servers = refl
 
 pub member-from-the-top : member 1 0 ≡ true

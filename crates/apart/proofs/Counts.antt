@@ -1,33 +1,54 @@
 -- What the definitions of kinds 7 and 12 give where a wrong program differs. Assumes nothing.
 use mathlib.Core.Path.{_≡_, refl}
 use mathlib.Core.Bool.{true, false}
-use mathlib.Core.List.{[], _∷_}
+use mathlib.Core.List.{List, [], _∷_}
 use Rattle.base.specs.Numbers.{count, highest}
 use Rattle.base.specs.Lists.{eachFrom}
 use Rattle.clock.specs.Times.{sameTime}
 use Rattle.log.specs.Entries.{sameEntry, entryAt, equalAt, hasEntry}
 use Rattle.log.specs.Logs.{mayAsk}
-use Rattle.cluster.specs.Servers.{freshServer, startedOf}
+use Rattle.log.specs.declared.Entry.{Entry as EntryOf}
+use Rattle.mail.specs.declared.Note.{Note}
+use Rattle.mail.specs.Reports.{zeroNote}
+use Rattle.cluster.specs.declared.Server.{Server}
+use Rattle.cluster.specs.Servers.{withMail, freshServer, startedOf}
 use Rattle.steps.specs.declared.Answer.the-variants.{Reached, Entry, Refused}
 use Rattle.steps.specs.declared.Refusal.the-variants.{WrongRole, NoSuchEntry}
 use Rattle.counts.specs.Advances.{backs, passes, highestPassing, advancesOf}
 use Rattle.counts.specs.Acknowledged.{holders, isAcknowledged, acknowledgedOf}
-use Rattle.apart.proofs.Things.{at, x, y, z, holder, leader, two, F2}
+use Rattle.apart.proofs.Things.{at, entry, x, y, u, note, noting, server, holder, two, F2}
 
-pub counts-members-of-other-terms : backs (holder 1 (x ∷ [])) 1 (holder 2 (x ∷ [])) ≡ false
+-- a primary of term 2 with this log and these first notes
+abbrev noted : List Note → List EntryOf → Server
+noted ns es = withMail (server 2 true 0 1 (at 2 0) es) (noting ns)
+
+pub backs-by-a-later-term : backs (noted (zeroNote ∷ note 3 2 1 ∷ []) (u ∷ [])) 0 1 1 ≡ false
 unfolding backs
-counts-members-of-other-terms = refl
+backs-by-a-later-term = refl
 
-pub backs-by-terms-alone : backs (holder 1 (x ∷ [])) 1 (holder 1 []) ≡ false
-unfolding equalAt backs
+pub backs-by-an-older-last-term : backs (noted (zeroNote ∷ note 2 1 1 ∷ []) (u ∷ [])) 0 1 1 ≡ false
+unfolding backs
+backs-by-an-older-last-term = refl
+
+pub backs-by-terms-alone : backs (noted (zeroNote ∷ note 2 2 1 ∷ []) (u ∷ [])) 0 2 1 ≡ false
+unfolding backs
 backs-by-terms-alone = refl
 
-pub counts-entries-of-older-terms : highestPassing (two (holder 2 (x ∷ [])) (holder 2 (x ∷ []))) (holder 2 (x ∷ [])) ≡ 0
+pub backs-itself-by-its-note : backs (noted [] (u ∷ [])) 0 1 0 ≡ true
+unfolding backs
+backs-itself-by-its-note = refl
+
+pub counts-entries-of-older-terms : highestPassing 2 (noted (zeroNote ∷ note 2 2 1 ∷ []) (x ∷ [])) 0 ≡ 0
 unfolding highest entryAt passes highestPassing
 counts-entries-of-older-terms = refl
 
-pub advances-one-further : advancesOf (two (leader (x ∷ z ∷ [])) (holder 1 (x ∷ z ∷ []))) 0 .answer ≡ Reached 2
-unfolding count highest sameTime sameEntry entryAt equalAt backs passes highestPassing
+pub counts-its-own-note : highestPassing 2 (noted (note 2 2 1 ∷ []) (u ∷ [])) 0 ≡ 0
+unfolding count highest entryAt backs passes highestPassing
+counts-its-own-note = refl
+
+-- entries 2/5/42@(2,0) and 2/5/43@(3,0), both noted
+pub advances-one-further : advancesOf (two (noted (zeroNote ∷ note 2 2 2 ∷ []) (u ∷ entry 2 5 43 (at 3 0) ∷ [])) freshServer) 0 .answer ≡ Reached 2
+unfolding count highest entryAt backs passes highestPassing
 advances-one-further = refl
 
 pub secondary-advances : advancesOf F2 0 .answer ≡ Refused WrongRole

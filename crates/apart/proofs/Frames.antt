@@ -37,10 +37,10 @@ pub long-line-is-taken : readStep (writeStep ClocksAgree ++ (48 ∷ [])) ≡ R.N
 unfolding charOf highOf lowOf bytesOfFrame framed
 long-line-is-taken = refl
 
--- 10 and then 0
-pub kind-16-is-taken : readStep (49 ∷ replicate 25 48) ≡ R.NoFrame
+-- 11 and then 0
+pub kind-17-is-taken : readStep (49 ∷ 49 ∷ replicate 24 48) ≡ R.NoFrame
 unfolding every digitOf byteOf allHex highOf lowOf wordOf framed bytesOfFrame frameOf stepOfFrame isClean stepIn
-kind-16-is-taken = refl
+kind-17-is-taken = refl
 
 -- kind 0c, key 01
 pub mask-off-by-a-byte : readStep (48 ∷ 99 ∷ (replicate 7 48 ++ (49 ∷ replicate 16 48))) ≡ R.NoFrame

@@ -2,6 +2,7 @@
 pub mod Things
 pub mod Clock
 pub mod Log
+pub mod Mail
 pub mod Cluster
 pub mod Steps
 pub mod Pairs

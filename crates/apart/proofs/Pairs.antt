@@ -3,16 +3,19 @@ use mathlib.Core.Path.{_≡_, refl}
 use mathlib.Core.Bool.{true, false}
 use mathlib.Core.List.{[], _∷_}
 use Prim.Native.Nat.{max}
+use lib.ListN.{replicate}
 use Rattle.clock.specs.Times.{zeroTime, isBefore, sameTime, laterOf}
 use Rattle.log.specs.Entries.{sameEntry, entryAt, equalAt, commonBeginning}
 use Rattle.log.specs.Logs.{emptyLog}
-use Rattle.cluster.specs.Servers.{freshServer}
+use Rattle.cluster.specs.Servers.{withMail, freshServer}
+use Rattle.steps.specs.declared.Sends.the-variants.{To}
 use Rattle.steps.specs.declared.Answer.the-variants.{Reached, Refused}
 use Rattle.steps.specs.declared.Refusal.the-variants.{ConditionUnmet, BelowCommitPoint}
 use Rattle.pairs.specs.Hears.{takesCommit, staysPrimary, heardOf, hearsOf}
+use Rattle.pairs.specs.Reports.{sentOf}
 use Rattle.pairs.specs.Pulls.{mayJoin, tookOf, pullsOf}
 use Rattle.pairs.specs.RollsBack.{rollsBackOf}
-use Rattle.apart.proofs.Things.{at, x, y, z, w, u, log, server, holder, leader, covering, timed}
+use Rattle.apart.proofs.Things.{at, x, y, z, w, u, log, report, f, holding, server, holder, leader, covering, timed}
 
 pub greater-takes-the-first-or-adds : max 1 2 ≡ 2
 greater-takes-the-first-or-adds = refl
@@ -54,17 +57,36 @@ joins-anywhere = refl
 pub joins-no-empty-log : mayJoin emptyLog (log (x ∷ [])) 0 ≡ true
 joins-no-empty-log = refl
 
-pub pulls-gives-b : pullsOf (holder 1 (x ∷ z ∷ [])) (holder 1 (y ∷ z ∷ w ∷ [])) .server .log ≡ log (x ∷ z ∷ w ∷ [])
+pub pulls-gives-b : pullsOf (holder 1 (x ∷ z ∷ [])) (holder 1 (y ∷ z ∷ w ∷ [])) 0 1 .server .log ≡ log (x ∷ z ∷ w ∷ [])
 unfolding sameTime sameEntry entryAt equalAt tookOf
 pulls-gives-b = refl
 
-pub pulls-from-no-longer-a-log : pullsOf (holder 1 (x ∷ [])) (holder 1 (x ∷ [])) .answer ≡ Refused ConditionUnmet
+pub pulls-from-no-longer-a-log : pullsOf (holder 1 (x ∷ [])) (holder 1 (x ∷ [])) 0 1 .answer ≡ Refused ConditionUnmet
 pulls-from-no-longer-a-log = refl
 
-pub rolls-back-below-the-commit-point : rollsBackOf (covering (x ∷ [])) (holder 2 (u ∷ [])) .answer ≡ Refused BelowCommitPoint
+pub leaves-its-source : sentOf 0 1 freshServer .server .mail .source ≡ 2
+leaves-its-source = refl
+
+pub reports-its-term-for-its-last : sentOf 0 1 (holder 2 (x ∷ [])) .sends ≡ To 1 (report 0 2 1 1)
+unfolding entryAt
+reports-its-term-for-its-last = refl
+
+pub reports-what-it-had-before : pullsOf freshServer (holder 1 (x ∷ [])) 0 1 .sends ≡ To 1 (report 0 1 1 1)
+unfolding entryAt tookOf
+reports-what-it-had-before = refl
+
+pub a-full-queue-refuses-the-pull : pullsOf freshServer (withMail (holder 1 (x ∷ [])) (holding (replicate 8 f))) 0 1 .answer ≡ Reached 1
+unfolding tookOf
+a-full-queue-refuses-the-pull = refl
+
+pub rolls-back-and-reports-what-it-had : rollsBackOf (holder 1 (x ∷ [])) (holder 2 (u ∷ [])) 0 1 .sends ≡ To 1 (report 0 2 2 1)
+unfolding sameEntry entryAt commonBeginning tookOf
+rolls-back-and-reports-what-it-had = refl
+
+pub rolls-back-below-the-commit-point : rollsBackOf (covering (x ∷ [])) (holder 2 (u ∷ [])) 0 1 .answer ≡ Refused BelowCommitPoint
 unfolding sameEntry entryAt commonBeginning
 rolls-back-below-the-commit-point = refl
 
-pub rolls-back-by-server-terms : rollsBackOf (holder 2 (x ∷ [])) (holder 2 (u ∷ [])) .answer ≡ Reached 1
-unfolding sameEntry entryAt commonBeginning
+pub rolls-back-by-server-terms : rollsBackOf (holder 2 (x ∷ [])) (holder 2 (u ∷ [])) 0 1 .answer ≡ Reached 1
+unfolding sameEntry entryAt commonBeginning tookOf
 rolls-back-by-server-terms = refl

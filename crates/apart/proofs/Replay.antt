@@ -10,12 +10,13 @@ use Rattle.clock.specs.Times.{isBefore, sameTime, laterOf}
 use Rattle.log.specs.Entries.{sameEntry, entryAt}
 use Rattle.log.specs.Order.{inOrder, restZero, logOk}
 use Rattle.cluster.specs.Servers.{freshServer, zeroCluster, serverAt}
+use Rattle.mail.specs.Order.{isUnused, isUsed, noteOk, notesOk, slotOk, queueOk, sourceOk, mailOk}
 use Rattle.cluster.specs.WellFormed.{numbersOk, countedOk, zeroOk, serverOk, wellFormed}
 use Rattle.steps.specs.declared.Answer.the-variants.{Refused}
 use Rattle.steps.specs.declared.Refusal.the-variants.{NotAFrame, IllFormed}
 use Rattle.steps.specs.declared.Step.the-variants.{Start, Hears, ClocksAgree}
 use Rattle.pairs.specs.Hears.{heardOf}
-use Rattle.rules.specs.Rules.{rowOf, coreOf, stepOf}
+use Rattle.rules.specs.Rules.{delivered, rowOf, coreOf, stepOf}
 use Rattle.hex.specs.Digits.{digitOf, charOf, byteOf}
 use Rattle.hex.specs.Lines.{allHex}
 use Rattle.frames.specs.declared.ReadStep.the-variants as R
@@ -68,7 +69,7 @@ plan-lets-a-start-look = refl
 pub the-wrong-server-is-replaced :
     serverAt (fedOf (record { cluster = two freshServer (holder 1 []); reader = reader (writeStep (Hears 0 1)) 26 false }) (10 ∷ []) 19 .session .cluster) 0 .head .term
     ≡ 1
-unfolding every count eachFrom isBefore sameTime laterOf sameEntry entryAt inOrder restZero logOk numbersOk countedOk zeroOk serverOk wellFormed digitOf charOf byteOf allHex highOf lowOf wordOf framed bytesOfFrame frameOf stepOfFrame isClean stepIn heardOf rowOf coreOf stepOf respond answerTo lineOf lineHeld after said fedOf
+unfolding every count eachFrom isBefore sameTime laterOf sameEntry entryAt inOrder restZero logOk isUnused isUsed noteOk notesOk slotOk queueOk sourceOk mailOk numbersOk countedOk zeroOk serverOk wellFormed digitOf charOf byteOf allHex highOf lowOf wordOf framed bytesOfFrame frameOf stepOfFrame isClean stepIn heardOf delivered rowOf coreOf stepOf respond answerTo lineOf lineHeld after said fedOf
 the-wrong-server-is-replaced = refl
 
 pub rest-without-line-feed-is-dropped : isEmpty (pushOf freshReader 48) ≡ false

@@ -6,18 +6,20 @@ use Rattle.base.specs.Numbers.{every, count, highest}
 use Rattle.base.specs.Lists.{eachFrom}
 use Rattle.clock.specs.Times.{isBefore}
 use Rattle.log.specs.Entries.{entryAt, latestValue}
+use Rattle.mail.specs.Queues.{queued}
 use Rattle.cluster.specs.declared.Server.{Server}
 use Rattle.cluster.specs.Servers.{freshServer, zeroCluster, startedOf, serverAt}
 use Rattle.cluster.specs.Sets.{member, isWithin}
 use Rattle.cluster.specs.WellFormed.{wellFormed}
 use Rattle.steps.specs.declared.Answer.the-variants as A
 use Rattle.steps.specs.declared.Refusal.the-variants.{IllFormed, OutOfRange}
+use Rattle.steps.specs.declared.Sends.the-variants as S
 use Rattle.steps.specs.declared.Step.the-variants.{Start, Elect, StepDown, Hears, WallClock, Restarts, LocalRead, ClocksAgree}
 use Rattle.pairs.specs.Hears.{heardOf}
 use Rattle.wholes.specs.Elects.{notBehind, mayVote, allMayVote}
-use Rattle.rules.specs.Rules.{rowOf, coreOf, isStart, stepOf}
+use Rattle.rules.specs.Rules.{delivered, putBack, rowOf, coreOf, isStart, stepOf}
 use Rattle.rules.specs.One.{untouchedOf, oneOf, singleOf, pairOf}
-use Rattle.apart.proofs.Things.{at, x, holder, leader, two, F2}
+use Rattle.apart.proofs.Things.{at, x, f, holder, leader, two, F2}
 
 pub untouched-makes-it-secondary : untouchedOf (leader []) .server .head .primary ≡ true
 untouched-makes-it-secondary = refl
@@ -38,15 +40,27 @@ unfolding singleOf
 single-of-any-number = refl
 
 pub single-puts-back-at-0 : serverAt (singleOf F2 1 (WallClock 1) .cluster) 0 .head .wall ≡ 1
-unfolding eachFrom startedOf oneOf singleOf
+unfolding eachFrom startedOf delivered oneOf singleOf
 single-puts-back-at-0 = refl
+
+pub delivers-nothing : serverAt (delivered F2 (S.To 1 f)) 1 .mail .queue .len ≡ 1
+unfolding eachFrom queued startedOf delivered
+delivers-nothing = refl
+
+pub delivers-to-0 : serverAt (delivered F2 (S.To 1 f)) 0 .mail .queue .len ≡ 0
+unfolding eachFrom queued startedOf delivered
+delivers-to-0 = refl
+
+pub puts-back-and-sends-nothing : serverAt (putBack F2 0 (record { server = freshServer; answer = A.Done; sends = S.To 1 f }) .cluster) 1 .mail .queue .len ≡ 1
+unfolding eachFrom queued startedOf delivered
+puts-back-and-sends-nothing = refl
 
 pub a-pulls-from-itself : pairOf F2 0 0 (Hears 0 0) .answer ≡ A.Refused OutOfRange
 unfolding pairOf
 a-pulls-from-itself = refl
 
 pub record-untouched : serverAt (pairOf (two freshServer (holder 1 [])) 0 1 (Hears 0 1) .cluster) 0 .head .term ≡ 1
-unfolding heardOf oneOf pairOf
+unfolding heardOf delivered oneOf pairOf
 record-untouched = refl
 
 pub core-looks-at-the-record : coreOf zeroCluster ClocksAgree .answer ≡ A.Done

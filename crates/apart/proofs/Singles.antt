@@ -1,4 +1,4 @@
--- What the definitions of kinds 2, 6, 8, 9, 10, 11, 14 and 15 give where a wrong program differs. Assumes nothing.
+-- What the definitions of kinds 2, 6, 8, 9, 10, 11, 14, 15 and 16 give where a wrong program differs. Assumes nothing.
 use mathlib.Core.Path.{_≡_, refl}
 use mathlib.Core.Bool.{Bool, true, false}
 use mathlib.Core.List.{List, [], _∷_}
@@ -9,10 +9,16 @@ use Rattle.clock.specs.Times.{isBefore, tickOf}
 use Rattle.log.specs.declared.Entry.{Entry}
 use Rattle.log.specs.Entries.{entryAt, hasEntry, latestValue}
 use Rattle.log.specs.Logs.{mayAsk, live, appended}
-use Rattle.cluster.specs.Servers.{freshServer}
+use Rattle.mail.specs.declared.Report.{Report}
+use Rattle.mail.specs.Reports.{zeroNote, noteOf, givesWay}
+use Rattle.mail.specs.Queues.{oldestTaken}
+use Rattle.mail.specs.Mails.{zeroMail, noteAt, withSource, noted}
+use Rattle.cluster.specs.declared.Server.{Server}
+use Rattle.cluster.specs.Servers.{withMail, freshServer}
+use Rattle.steps.specs.declared.Sends.the-variants.{Nothing, To}
 use Rattle.steps.specs.declared.Answer.{Answer}
 use Rattle.steps.specs.declared.Answer.the-variants.{Value, Refused}
-use Rattle.steps.specs.declared.Refusal.the-variants.{OutOfRange, WrongRole, LogFull, AtLimit, NotYet, NoSuchEntry}
+use Rattle.steps.specs.declared.Refusal.the-variants.{OutOfRange, WrongRole, ConditionUnmet, LogFull, AtLimit, NotYet, NoSuchEntry}
 use Rattle.singles.specs.StepsDown.{stepsDownOf}
 use Rattle.singles.specs.WallClock.{wallClockOf}
 use Rattle.singles.specs.Restarts.{restartsOf}
@@ -22,7 +28,8 @@ use Rattle.singles.specs.WritesNothing.{writesNothingOf}
 use Rattle.singles.specs.LocalRead.{localReadOf}
 use Rattle.singles.specs.MajorityRead.{majorityReadOf}
 use Rattle.singles.specs.NewestRead.{newestReadOf}
-use Rattle.apart.proofs.Things.{at, x, z, server, holder, leader, covering, clocked, timed}
+use Rattle.singles.specs.TakesReport.{forwards, takesReportOf}
+use Rattle.apart.proofs.Things.{at, x, z, f, g, h, noting, holding, server, holder, leader, covering, clocked, timed}
 
 pub steps-down-and-stays-primary : stepsDownOf (leader []) .server .head .primary ≡ false
 steps-down-and-stays-primary = refl
@@ -42,6 +49,12 @@ restarts-with-its-commit-point = refl
 pub restarts-keeps-the-time : restartsOf (timed (at 5 3)) .server .head .time ≡ at 0 0
 unfolding entryAt
 restarts-keeps-the-time = refl
+
+pub restarts-with-its-source : restartsOf (withMail freshServer (withSource zeroMail 2)) .server .mail .source ≡ 0
+restarts-with-its-source = refl
+
+pub restarts-with-its-notes : noteAt (restartsOf (withMail freshServer (noting (noteOf f ∷ []))) .server .mail) 0 ≡ zeroNote
+restarts-with-its-notes = refl
 
 pub writes-into-a-full-log : writesOf (leader (replicate 32 x)) 5 42 .answer ≡ Refused LogFull
 writes-into-a-full-log = refl
@@ -115,3 +128,29 @@ newest-read-of-the-whole-log = refl
 pub newest-read-8-before-10 : asked 1 true 0 [] ≡ Refused NoSuchEntry
 unfolding hasEntry mayAsk
 newest-read-8-before-10 = refl
+
+-- this server with one report in its queue, and server 1 for its source
+abbrev waiting : Server → Report → Server
+waiting s r = withMail s (withSource (holding (r ∷ [])) 2)
+
+pub a-primary-forwards : forwards (waiting (leader []) g) ≡ Nothing
+unfolding forwards
+a-primary-forwards = refl
+
+pub forwards-one-further : forwards (waiting freshServer g) ≡ To 1 g
+unfolding forwards
+forwards-one-further = refl
+
+pub a-report-raises-the-term : takesReportOf (waiting freshServer h) .server .head .term ≡ 0
+a-report-raises-the-term = refl
+
+pub takes-without-noting : noteAt (takesReportOf (waiting freshServer g) .server .mail) 1 ≡ noteOf g
+unfolding givesWay noted
+takes-without-noting = refl
+
+pub takes-and-keeps-the-report : takesReportOf (waiting freshServer g) .server .mail .queue .len ≡ 0
+unfolding oldestTaken noted
+takes-and-keeps-the-report = refl
+
+pub takes-from-an-empty-queue : takesReportOf freshServer .answer ≡ Refused ConditionUnmet
+takes-from-an-empty-queue = refl

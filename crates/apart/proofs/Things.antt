@@ -1,4 +1,4 @@
--- The times, entries, logs, servers and records that the facts are about, as docs/PROMISES.md names them. Assumes nothing.
+-- The times, entries, logs, notes, reports, servers and records that the facts are about, as docs/PROMISES.md names them. Assumes nothing.
 use mathlib.Core.List.{List, [], _∷_, _++_}
 use mathlib.Core.Bool.{Bool, true, false}
 use Prim.Native.Nat.{ℕ, _-_}
@@ -9,6 +9,13 @@ use Rattle.log.specs.declared.Entry.{Entry}
 use Rattle.log.specs.declared.Log.{Log}
 use Rattle.log.specs.Entries.{zeroEntry}
 use Rattle.log.specs.Logs.{logLimit}
+use Rattle.mail.specs.declared.Report.{Report}
+use Rattle.mail.specs.declared.Note.{Note}
+use Rattle.mail.specs.declared.Queue.{Queue}
+use Rattle.mail.specs.declared.Mail.{Mail}
+use Rattle.mail.specs.Reports.{zeroReport, zeroNote}
+use Rattle.mail.specs.Queues.{queueLimit}
+use Rattle.mail.specs.Mails.{noteSlots, zeroMail, withNotes, withQueue}
 use Rattle.cluster.specs.declared.Server.{Server}
 use Rattle.cluster.specs.declared.Cluster.{Cluster}
 use Rattle.cluster.specs.Servers.{withHead, withLog, zeroServer, freshServer, freshCluster}
@@ -38,6 +45,35 @@ u = entry 2 5 42 (at 2 0)
 -- the log of these entries
 abbrev pub log : List Entry → Log
 log es = record { entries = es ++ replicate (logLimit - length es) zeroEntry; len = length es }
+
+-- a note: term/last term/length
+abbrev pub note : ℕ → ℕ → ℕ → Note
+note term last len = record { term = term; last = last; len = len }
+
+-- a report: who:term/last term/length
+abbrev pub report : ℕ → ℕ → ℕ → ℕ → Report
+report who term last len = record { who = who; term = term; last = last; len = len }
+
+abbrev pub f : Report
+f = report 0 1 1 1
+
+abbrev pub g : Report
+g = report 1 1 1 2
+
+abbrev pub h : Report
+h = report 2 2 1 3
+
+-- the queue of these reports
+abbrev pub queue : List Report → Queue
+queue rs = record { reports = rs ++ replicate (queueLimit - length rs) zeroReport; len = length rs }
+
+-- zero mail but for these first notes
+abbrev pub noting : List Note → Mail
+noting ns = withNotes zeroMail (ns ++ replicate (noteSlots - length ns) zeroNote)
+
+-- zero mail but for these reports
+abbrev pub holding : List Report → Mail
+holding rs = withQueue zeroMail (queue rs)
 
 -- a fresh server but for its term, role, commit point, wall clock, cluster time and log
 abbrev pub server : ℕ → Bool → ℕ → ℕ → Time → List Entry → Server

@@ -5,7 +5,7 @@ use contract.Lifetimes.{Lfts}
 use denote.Ref.{RefT, now}
 use mathlib.Core.Path.{_≡_}
 use mathlib.Core.Logic.{_≢_}
-use mathlib.Core.Bool.{Bool, true, false, _||_}
+use mathlib.Core.Bool.{Bool, true, false, cond, _||_}
 use mathlib.Core.List.{List, [], _∷_, _++_}
 use Prim.Native.Nat.{ℕ, _≤_, _<_, _*_, _/_, _%_, _^_}
 use lib.Count.{ones}
@@ -29,7 +29,7 @@ use Rattle.cluster.specs.declared.Server.{Server}
 use Rattle.cluster.specs.Sets.{bits, membersOf, mostOf}
 use Rattle.cluster.proofs.Good as facts
 use Rattle.cluster.proofs.Masks as masks
-use Rattle.steps.specs.declared.Step.the-variants.{Start, Elect, ClocksAgree, WritesNothing, NewestRead}
+use Rattle.steps.specs.declared.Step.the-variants.{Start, Elect, Pulls, RollsBack, ClocksAgree, WritesNothing, NewestRead, TakesReport}
 use Rattle.steps.specs.Answers.{numberOf}
 use Rattle.steps.proofs.Numbers as numbers
 use Rattle.wholes.specs.Starts.{startRules}
@@ -48,9 +48,10 @@ use Rattle.answers.specs.Answers.{answerBytes}
 use Rattle.answers.proofs.Lengths as answer-lengths
 use Rattle.safety.specs.Promise.{StepsFrom, Kept}
 use Rattle.safety.proofs.Example as roof
+use Rattle.mail.specs.Mails.{noteAt, withNotes, withQueue}
 use Rattle.cluster.specs.declared.Cluster.{Cluster}
 use Rattle.cluster.specs.Ranges.{Fits}
-use Rattle.cluster.specs.Servers.{withTerm, withPrimary, withWall, withHead, serverAt, freshCluster, fewestServers, mostServers}
+use Rattle.cluster.specs.Servers.{withTerm, withPrimary, withWall, withHead, withMail, serverAt, freshCluster, fewestServers, mostServers}
 use Rattle.cluster.specs.WellFormed.{wellFormed}
 use Rattle.cluster.proofs.Fresh.{well-formed-fresh, fits-fresh}
 use Rattle.steps.specs.declared.Answer.{Answer}
@@ -107,6 +108,7 @@ use Rattle.safety.proofs.Promise as safety
 use Rattle.safety.specs.Newest.{NewestPromised, NewestRun, readAfter}
 use Rattle.safety.proofs.Newest as newest
 use Rattle.safety.proofs.NewestExample as overtaken
+use Rattle.safety.proofs.StaleExample as stale
 use Rattle.demand3.specs.Promise.{PromisedInTexts, Never9InTexts, Never9Written, EveryRun}
 use Rattle.demand3.proofs.Promise as lines
 use Rattle.demand3.specs.Newest.{NewestInTexts, EveryNewestRun}
@@ -352,23 +354,37 @@ pub majorities-meet : (p q : ℕ → Bool) (n : ℕ) → mostOf n (count n p) �
 majorities-meet p q n h k = let b = masks.majorities-meet p q n h k in (b .who, b .below, b .left, b .right)
 
 -- what kind 7 finds passes, and nothing above it does
-pub found-passes : (c : Cluster) (s : Server) → 1 ≤ highestPassing c s → passes c s (highestPassing c s) ≡ true
+pub found-passes : (size : ℕ) (s : Server) (a : ℕ) → 1 ≤ highestPassing size s a → passes size s a (highestPassing size s a) ≡ true
 found-passes = passing.passing-passes
 
-pub nothing-above-passes : (c : Cluster) (s : Server) (n : ℕ) → highestPassing c s < n → n ≤ lengthOf (s .log) → passes c s n ≡ false
+pub nothing-above-passes : (size : ℕ) (s : Server) (a n : ℕ) → highestPassing size s a < n → n ≤ lengthOf (s .log) → passes size s a n ≡ false
 nothing-above-passes = passing.passing-highest
 
--- a start that is allowed gives the fresh cluster; an election and agreeing clocks change no more than their rows name
+-- a start that is allowed gives the fresh cluster; an election, agreeing clocks, and what pulls, rollbacks and taken reports send change no
+-- more than their rows name
 pub a-start-is-fresh : (c : Cluster) (n : ℕ) → Clear (startRules n) → stepOf c (Start n) .cluster ≡ freshCluster n
 a-start-is-fresh = keeps.start-fresh
 
 pub an-election-changes-offices : (c : Cluster) (a m i : ℕ) → let t = serverAt (stepOf c (Elect a m) .cluster) i in
-    t ≡ withHead (serverAt c i) (withPrimary (withTerm (serverAt c i .head) (t .head .term)) (t .head .primary))
+    t ≡ withMail (withHead (serverAt c i) (withPrimary (withTerm (serverAt c i .head) (t .head .term)) (t .head .primary)))
+    (cond (eqb i a) (withNotes (withQueue (serverAt c i .mail) (t .mail .queue)) (t .mail .notes)) (serverAt c i .mail))
 an-election-changes-offices = others.elect-changes
 
 pub agreeing-changes-clocks : (c : Cluster) (i : ℕ) → let t = serverAt (stepOf c ClocksAgree .cluster) i in
     t ≡ withHead (serverAt c i) (withWall (serverAt c i .head) (t .head .wall))
 agreeing-changes-clocks = others.agree-changes
+
+pub a-pull-changes-others-queues : (c : Cluster) (a b i : ℕ) → i ≢ a → let t = serverAt (stepOf c (Pulls a b) .cluster) i in
+    t ≡ withMail (serverAt c i) (withQueue (serverAt c i .mail) (t .mail .queue))
+a-pull-changes-others-queues = others.pull-changes
+
+pub a-rollback-changes-others-queues : (c : Cluster) (a b i : ℕ) → i ≢ a → let t = serverAt (stepOf c (RollsBack a b) .cluster) i in
+    t ≡ withMail (serverAt c i) (withQueue (serverAt c i .mail) (t .mail .queue))
+a-rollback-changes-others-queues = others.roll-changes
+
+pub a-taken-report-changes-others-queues : (c : Cluster) (a i : ℕ) → i ≢ a → let t = serverAt (stepOf c (TakesReport a) .cluster) i in
+    t ≡ withMail (serverAt c i) (withQueue (serverAt c i .mail) (t .mail .queue))
+a-taken-report-changes-others-queues = others.take-changes
 
 -- the test of a record and the facts that it stands for are one
 pub well-formed-is-good : (c : Cluster) → Fits c → wellFormed c ≡ true → facts.Good c
@@ -413,6 +429,16 @@ build-40-was-there = roof.not-covered
 
 pub build-40-is-rolled-back : live (serverAt roof.end 0 .log) ≡ roof.build 1 41 0 ∷ roof.build 2 42 1 ∷ []
 build-40-is-rolled-back = roof.rolled-back
+
+-- a run in which a primary covers build 41 by a note that is out of date, when nobody else is in its term any more: it is kept all the same
+pub the-note-is-out-of-date : noteAt (serverAt stale.moment 0 .mail) 2 ≡ record { term = 1; last = 1; len = 1 }
+the-note-is-out-of-date = stale.stale
+
+pub nobody-else-is-in-its-term : count 3 (λ i. eqb (serverAt stale.moment i .head .term) 1) ≡ 1
+nobody-else-is-in-its-term = stale.alone-in-its-term
+
+pub what-it-covers-is-kept : Kept stale.moment stale.end 0 1
+what-it-covers-is-kept = stale.kept
 
 -- ---- a contract decides its result
 
