@@ -60,7 +60,7 @@ hex-bytes n line e a = go n line e (λ i h. ltb-true _ _ (every-at (λ k. isDigi
         cc (high-char h l (d 0 (omega arith)), low-char h l (d 1 (omega arith)), go (n - 1) line (omega arith) (λ i k. d (suc (suc i)) (omega arith)))
 
 -- written over a list of the same length nothing else is left
-over-all : (xs ys : List ℕ) → length xs ≡ length ys → over xs ys ≡ xs
+pub over-all : (xs ys : List ℕ) → length xs ≡ length ys → over xs ys ≡ xs
 over-all xs ys e =
     let m : min (length xs) (length ys) ≡ length xs = omega arith in
     ap (λ (k : ℕ). joinedAt k xs ys) m ∙ cc (take-length xs, ap (λ (k : ℕ). drop k ys) e, drop-length ys, append-nil xs)

@@ -6,13 +6,14 @@ use Prim.Native.Nat.{ℕ, zero, suc, _+_, _-_, _≤_, _<_}
 use native.Mathlib.Omega.{arith}
 use borrow.Author.Tests.{lt-ltb, le-ltb, eq-eqb, ne-eqb, eqb-true, eqb-false, ltb-true}
 use lib.Dec.{ltb, eqb}
-use lib.ListN.{length, getD, take, drop, set, length-take, length-drop, length-set}
+use lib.ListN.{length, getD, take, drop, length-take, length-drop}
 use lib.Seq.{take-suc, getD-drop, getD-take}
 use Rattle.base.proofs.Bools.{and-right}
 use Rattle.base.proofs.Every.{every-at}
 use Rattle.hex.specs.Digits.{digitOf, isDigit}
 use Rattle.hex.specs.Lines.{allHex, bytesOf}
 use Rattle.words.specs.Words.{framed}
+use Rattle.words.proofs.Held.{empty-stands, push-slots}
 use Rattle.cluster.specs.declared.Cluster.{Cluster}
 use Rattle.steps.specs.declared.Outcome.{Outcome}
 use Rattle.steps.specs.declared.Step.{Step as AnyStep}
@@ -24,8 +25,8 @@ use Rattle.replay.specs.declared.Next.{Next}
 use Rattle.replay.specs.declared.Reader.{Reader}
 use Rattle.replay.specs.declared.Session.{Session}
 use Rattle.replay.specs.Texts.{lineFeed, respond, answerTo, lineOf}
-use Rattle.replay.specs.Pieces.{kept, answerLine, freshReader, begun, lineHeld, pushOf, isEmpty, cameLine, wholeLine, nextBy, nextOf, placed}
-use Rattle.replay.proofs.Whole.{StandsFor, fits, push-holds, held-answer}
+use Rattle.replay.specs.Pieces.{kept, answerLine, freshReader, readerOf, begun, lineHeld, pushOf, isEmpty, cameLine, wholeLine, nextBy, nextOf, placed}
+use Rattle.replay.proofs.Whole.{StandsFor, push-holds, held-answer}
 use Rattle.replay.proofs.Along.{Along, by-line, by-byte}
 
 -- ---- the whole line, a law for each way that the look at it can go
@@ -93,13 +94,9 @@ pub record Moved (text : List ℕ) (at : ℕ) (n : Next) : Type 0 where
   pub inside : at + n .took ≤ length text
   pub slots : length (n .reader .held) ≡ kept
 
-push-slots : (r : Reader) (b : ℕ) → length (r .held) ≡ kept → length (pushOf r b .held) ≡ kept
+slots-kept : (r : Reader) (b : ℕ) → length (r .held) ≡ kept → length (pushOf r b .held) ≡ kept
 unfolding pushOf
-push-slots r b k = go (ltb (r .fill) kept)
-  where
-    go : (x : Bool) → length (cond {A = Reader} x (record { held = set (r .held) (r .fill) b; fill = r .fill + 1; over = r .over }) (record { held = r .held; fill = r .fill; over = true }) .held) ≡ kept
-    go true = length-set (r .held) (r .fill) b ∙ k
-    go false = k
+slots-kept r b k = push-slots kept readerOf (r .held) (r .fill) (r .over) b (λ q. length (q .held) ≡ kept) (λ held fill over q. q) k
 
 pub moved : (r : Reader) (text : List ℕ) (at : ℕ) (n : Next) → at < length text → length (r .held) ≡ kept → n ≡ nextOf r text at → Moved text at n
 unfolding nextBy
@@ -107,7 +104,7 @@ moved r text at n h k e = subst (Moved text at) (sym e) (go (wholeLine r text at
   where
     by-feed : (b : Bool) → Moved text at (cond b (cameLine (readStep (lineHeld r)) 1) (record { reader = pushOf r (getD text at 0); took = 1; came = Character }))
     by-feed true = record { some = omega arith; inside = omega arith; slots = refl }
-    by-feed false = record { some = omega arith; inside = omega arith; slots = push-slots r (getD text at 0) k }
+    by-feed false = record { some = omega arith; inside = omega arith; slots = slots-kept r (getD text at 0) k }
 
     go : (x : ReadStep) (b : Bool) → wholeLine r text at ≡ x → Moved text at (nextBy x r (getD text at 0))
     go (Step s) b y = let l = whole-there r text at s y .inside in record { some = omega arith; inside = omega arith; slots = refl }
@@ -165,16 +162,8 @@ by-bytes {s} {text} {out₀} {out} {c} {r} {w} {i} (suc k) h room none a f =
       reader = pushOf (u .reader) b;
       along = subst (λ (n : ℕ). Along s text out₀ out (record { cluster = c; reader = pushOf (u .reader) b }) w n) e
           (by-byte (pushOf (u .reader) b) (u .along) (omega arith) room (none k (omega arith)) refl);
-      stands = subst (StandsFor (pushOf (u .reader) b)) more (push-holds b (u .stands));
+      stands = subst (StandsFor (pushOf (u .reader) b)) more (push-holds (u .reader) b (u .stands));
     }
-
--- a fresh reader stands for no bytes
-fresh-stands : (r : Reader) → isEmpty r ≡ true → length (r .held) ≡ kept → StandsFor r []
-fresh-stands r e n = go (r .over) refl e
-  where
-    go : (b : Bool) → r .over ≡ b → cond b false (eqb (r .fill) 0) ≡ true → StandsFor r []
-    go true o z = absurd (true≢false (sym z))
-    go false o z = fits {p = []} o (eqb-true (r .fill) 0 z) (omega arith) refl n
 
 -- no line feed stands among the bytes of the whole line
 plain : {r : Reader} {text : List ℕ} {i : ℕ} {s : AnyStep} → There r text i s → (j : ℕ) → j < kept → getD text (i + j) 0 ≡ lineFeed → ⊥
@@ -187,7 +176,7 @@ at-feed : {s : Session} {text out₀ out : List ℕ} {c : Cluster} {p : List ℕ
     → i < length text → answerLine ≤ length out₀ - w → getD text i 0 ≡ lineFeed → o ≡ respond c (readStep p) → e ≡ begun (o .cluster)
     → out′ ≡ placed out w (lineOf (o .answer)) → Along s text out₀ out′ e (w + answerLine) (i + 1)
 unfolding answerTo
-at-feed {c = c} u o e out′ h room f q b o′ = by-line e o out′ (u .along) h room f (q ∙ sym (held-answer c (u .stands))) b o′
+at-feed {c = c} u o e out′ h room f q b o′ = by-line e o out′ (u .along) h room f (q ∙ sym (held-answer c (u .reader) (u .stands))) b o′
 
 -- ---- the loop, a turn further
 
@@ -199,7 +188,7 @@ module _ {s : Session} {text out₀ out : List ℕ} {c : Cluster} {r : Reader} {
   whole-line t o e out′ there p b o′ =
       let n : i + kept + 1 ≡ i + (kept + 1) = omega arith in
       subst (λ (m : ℕ). Along s text out₀ out′ e (w + answerLine) m) n
-      (at-feed (by-bytes kept (omega (arith, there .inside)) room (plain there) a (fresh-stands r (there .fresh) slots)) o e out′ (there .inside) room (there .feed)
+      (at-feed (by-bytes kept (omega (arith, there .inside)) room (plain there) a (empty-stands (there .fresh) slots)) o e out′ (there .inside) room (there .feed)
       (p ∙ ap (respond c) (sym (there .reads))) b o′)
 
   -- a character

@@ -6,14 +6,15 @@ use Prim.Native.Nat.{ℕ, suc, _+_, _-_, _≤_, _<_}
 use native.Mathlib.Numerals.{add-one}
 use native.Mathlib.Omega.{arith}
 use borrow.Author.Tests.{lt-ltb, le-ltb, ne-eqb}
-use lib.ListN.{length, getD, take, drop, length-append, length-drop, take-append-drop}
-use lib.Seq.{take-suc, drop-cons, take-at, drop-drop, drop-append-add, drop-length}
+use lib.ListN.{length, getD, take, drop, length-append}
+use lib.Seq.{take-suc, drop-cons, drop-length}
 use Rattle.replay.specs.declared.Session.{Session}
 use Rattle.replay.specs.declared.Fed.{Fed}
 use Rattle.cluster.specs.declared.Cluster.{Cluster}
 use Rattle.steps.specs.declared.Outcome.{Outcome}
 use Rattle.replay.specs.declared.Reader.{Reader}
 use Rattle.replay.specs.Texts.{lineFeed, answerTo, lineOf}
+use Rattle.replay.proofs.Placed.{placed-none, placed-length, placed-more}
 use Rattle.replay.proofs.Whole.{runs-append, says-append, line-long}
 use Rattle.replay.specs.Pieces.{answerLine, placed, after, said, runs, says, taking, fedOf, fedOut, lineHeld, begun, pushOf}
 
@@ -23,12 +24,12 @@ pub record Along (s : Session) (text out₀ : List ℕ) (out : List ℕ) (d : Se
   pub count : length (says s (take i text)) ≡ w
   pub room : w ≤ length out₀
   pub same : length out ≡ length out₀
-  pub buffer : out ≡ says s (take i text) ++ drop w out₀
+  pub buffer : out ≡ placed out₀ 0 (says s (take i text))
   pub left : i + taking d (drop i text) (length out₀ - w) ≡ taking s text (length out₀)
 
 pub start : (s : Session) (text out : List ℕ) → Along s text out out s 0 0
 start s text out =
-    record { at = omega arith; ran = refl; count = refl; room = omega arith; same = refl; buffer = refl; left = let e : length out - 0 ≡ length out = omega arith in omega (arith, ap (λ (k : ℕ). taking s text k) e) }
+    record { at = omega arith; ran = refl; count = refl; room = omega arith; same = refl; buffer = sym (placed-none out 0); left = let e : length out - 0 ≡ length out = omega arith in omega (arith, ap (λ (k : ℕ). taking s text k) e) }
 
 -- one byte more, which says xs
 pub more : {s : Session} {text out₀ out : List ℕ} {d : Session} {w i : ℕ} (e : Session) (xs out′ : List ℕ) → Along s text out₀ out d w i
@@ -40,7 +41,7 @@ more {s} {text} {out₀} {out} {d} {w} {i} e xs out′ a h r p q l o =
       ran = ap (runs s) snoc ∙ runs-append s (take i text) (b ∷ []) ∙ ap (λ (x : Session). after x b) (a .ran) ∙ p;
       count = counted;
       room = omega arith;
-      same = omega (arith, ap length buf, length-append (says s (take (i + 1) text)) (drop (w + length xs) out₀), length-drop (w + length xs) out₀, counted);
+      same = ap length buf ∙ placed-length out₀ 0 (says s (take (i + 1) text)) (omega (arith, counted));
       buffer = buf;
       left = omega (arith, turn, a .left);
     }
@@ -59,19 +60,12 @@ more {s} {text} {out₀} {out} {d} {w} {i} e xs out′ a h r p q l o =
     counted : length (says s (take (i + 1) text)) ≡ w + length xs
     counted = ap length saying ∙ length-append (says s (take i text)) xs ∙ ap (λ (k : ℕ). k + length xs) (a .count)
 
-    front : take w out ≡ says s (take i text)
-    front = ap (take w) (a .buffer) ∙ take-at (says s (take i text)) (drop w out₀) w (a .count)
-
-    back : drop (w + length xs) out ≡ drop (w + length xs) out₀
-    back =
-        ap (drop (w + length xs)) (a .buffer)
-        ∙ ap (λ (k : ℕ). drop (k + length xs) (says s (take i text) ++ drop w out₀)) (sym (a .count))
-        ∙ drop-append-add (says s (take i text)) (drop w out₀) (length xs) ∙ drop-drop (length xs) w out₀
-
-    buf : out′ ≡ says s (take (i + 1) text) ++ drop (w + length xs) out₀
+    buf : out′ ≡ placed out₀ 0 (says s (take (i + 1) text))
     buf =
-        o ∙ ap (λ (x : List ℕ). x ++ xs ++ drop (w + length xs) out) front
-        ∙ ap (λ (x : List ℕ). says s (take i text) ++ xs ++ x) back ∙ ap (λ (x : List ℕ). x ++ drop (w + length xs) out₀) (sym saying)
+        let told = says s (take i text) in
+        let n : w ≡ 0 + length told = omega (arith, a .count) in
+        o ∙ ap (λ (k : ℕ). placed out k xs) n ∙ ap (λ (l : List ℕ). placed l (0 + length told) xs) (a .buffer)
+        ∙ placed-more out₀ 0 told (omega (arith, a .count, a .room)) xs ∙ ap (placed out₀ 0) (sym saying)
 
     rest : length out₀ - w - length xs ≡ length out₀ - (w + length xs)
     rest = omega arith
@@ -111,7 +105,7 @@ by-byte {s} {text} {out₀} {out} {d} {w} {i} l a h room b p =
     (more (record { cluster = d .cluster; reader = l }) [] out a h room
     (simp (ne-eqb _ lineFeed b) (ap (λ (x : Reader). record { cluster = d .cluster; reader = x }) (sym p)))
     (simp (ne-eqb _ lineFeed b)) (omega arith)
-    (sym (ap (λ (x : List ℕ). x ++ drop (w + 0) out) (append-nil (take w out)) ∙ ap (λ (k : ℕ). take w out ++ drop k out) z ∙ take-append-drop w out)))
+    (sym (placed-none out w)))
 
 -- no room, or no more text
 no-room : (s : Session) (text : List ℕ) (room : ℕ) → room < answerLine → taking s text room ≡ 0
@@ -134,9 +128,7 @@ module _ {s : Session} {text out₀ out : List ℕ} {d : Session} {w i : ℕ} (a
 
   put : taking d (drop i text) (length out₀ - w) ≡ 0 → out ≡ fedOut s text out₀
   unfolding fedOut
-  put z =
-      let e : w ≡ 0 + length (says s (take i text)) = omega (arith, a .count) in
-      a .buffer ∙ ap (λ (k : ℕ). says s (take i text) ++ drop k out₀) e ∙ ap (λ (k : ℕ). placed out₀ 0 (says s (take k text))) (whole z)
+  put z = a .buffer ∙ ap (λ (k : ℕ). placed out₀ 0 (says s (take k text))) (whole z)
 
   pub stopped : length out₀ - w < answerLine → (_≡_ {A = Fed} (record { session = d; taken = i; wrote = w }) (fedOf s text (length out₀))) × (out ≡ fedOut s text out₀)
   stopped h = (fed (no-room d (drop i text) _ h), put (no-room d (drop i text) _ h))

@@ -3,12 +3,13 @@
 use Prim.Native.Nat.{ℕ, suc, _+_, _-_, _*_}
 use mathlib.Core.Bool.{Bool, true, false, cond}
 use mathlib.Core.List.{List, [], _∷_, _++_}
-use lib.Dec.{ltb, leb, eqb}
-use lib.ListN.{length, getD, take, drop, set, replicate}
+use lib.Dec.{ltb, eqb}
+use lib.ListN.{length, getD, take, drop, replicate}
 use Rattle.cluster.specs.declared.Cluster.{Cluster}
 use Rattle.frames.specs.Layout.{stepBytes}
 use Rattle.answers.specs.Answers.{answerBytes}
 use Rattle.hex.specs.Lines.{chars}
+use Rattle.words.specs.Held.{heldLine, pushed, nothingHeld}
 use Rattle.frames.specs.declared.ReadStep.{ReadStep}
 use Rattle.frames.specs.declared.ReadStep.the-variants.{Step, NoFrame}
 use Rattle.frames.specs.Steps.{readStep}
@@ -34,23 +35,20 @@ freshReader = record { held = replicate kept 0; fill = 0; over = false }
 abbrev pub begun : Cluster → Session
 begun c = record { cluster = c; reader = freshReader }
 
--- some line that is too long
-abbrev pub tooLong : List ℕ
-tooLong = replicate (suc kept) 0
-
 -- the line that a reader stands for
 unfoldable pub lineHeld : Reader → List ℕ
-lineHeld r = cond (r .over) tooLong (cond (leb (r .fill) kept) (take (r .fill) (r .held)) tooLong)
+lineHeld r = heldLine kept (r .held) (r .fill) (r .over)
+
+abbrev pub readerOf : List ℕ → ℕ → Bool → Reader
+readerOf held fill over = record { held = held; fill = fill; over = over }
 
 -- one character more; past a frame's length only that there were more is remembered
 unfoldable pub pushOf : Reader → ℕ → Reader
-pushOf r b =
-    cond (ltb (r .fill) kept) (record { held = set (r .held) (r .fill) b; fill = r .fill + 1; over = r .over })
-    (record { held = r .held; fill = r .fill; over = true })
+pushOf r b = pushed kept readerOf (r .held) (r .fill) (r .over) b
 
 -- nothing of a line was read
 abbrev pub isEmpty : Reader → Bool
-isEmpty r = cond (r .over) false (eqb (r .fill) 0)
+isEmpty r = nothingHeld (r .fill) (r .over)
 
 -- a line came, which reads so
 abbrev pub cameLine : ReadStep → ℕ → Next

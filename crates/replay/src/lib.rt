@@ -13,7 +13,7 @@ use steps::Outcome;
 use steps::Refusal;
 use steps::Step;
 
-const LINE_FEED: u8 = 10;
+pub const LINE_FEED: u8 = 10;
 
 // How many bytes an answer line has.
 pub const ANSWER_LINE: usize = answers::ANSWER_CHARS + 1;

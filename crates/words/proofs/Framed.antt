@@ -22,7 +22,8 @@ module _ {A : Type 0} (n : ℕ) (f : List ℕ → A) (none : A) where
   unfolding framed
   framed-spoilt line h e = simp (eq-eqb _ _ h, e)
 
-  framed-good : (line : List ℕ) → length line ≡ chars * n → allHex line ≡ true → f (bytesOf line) ≡ framed n f none line
+  -- n bytes in lower case
+  pub framed-good : (line : List ℕ) → length line ≡ chars * n → allHex line ≡ true → f (bytesOf line) ≡ framed n f none line
   unfolding framed
   framed-good line h e = simp (eq-eqb _ _ h, e)
 

@@ -1,2 +1,3 @@
--- Numbers of two bytes, and lines of so many bytes. Assumes nothing.
+-- Numbers of two bytes, lines of so many bytes, and a line that is being read. Assumes nothing.
 pub mod Words
+pub mod Held

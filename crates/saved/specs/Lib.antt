@@ -1,0 +1,5 @@
+-- The saved form of a record: its frames, its text, and which texts have its shape. Assumes nothing.
+pub mod Layout
+pub mod Saved
+pub mod Shape
+pub mod Written

@@ -1,0 +1,57 @@
+-- How a saved form is written into a buffer: frames by value, and what `save` gives and leaves. Assumes nothing.
+use mathlib.Core.Bool.{cond}
+use mathlib.Core.List.{List}
+use Prim.Native.Nat.{ℕ, _+_, _*_, _≤_}
+use mathlib.Core.Path.{_≡_}
+use lib.Dec.{ltb}
+use lib.ListN.{length}
+use Rattle.hex.specs.Lines.{chars}
+use Rattle.log.specs.Logs.{logLimit}
+use Rattle.mail.specs.Queues.{queueLimit}
+use Rattle.mail.specs.Mails.{noteSlots}
+use Rattle.cluster.specs.declared.Server.{Server}
+use Rattle.cluster.specs.declared.Cluster.{Cluster}
+use Rattle.cluster.specs.Servers.{mostServers}
+use Rattle.cluster.specs.WellFormed.{wellFormed}
+use Rattle.steps.specs.declared.Refusal.the-variants.{IllFormed}
+use Rattle.replay.specs.Pieces.{placed}
+use Rattle.saved.specs.declared.Sort.{Sort}
+use Rattle.saved.specs.declared.Sort.the-variants as S
+use Rattle.saved.specs.declared.Saved.{Saved}
+use Rattle.saved.specs.declared.Saved.the-variants.{Text, NoRoom, Refused}
+use Rattle.saved.specs.Layout.{sizeOf}
+use Rattle.saved.specs.Saved.{textOf, saveOf}
+
+-- no frame has more bytes than a server's
+abbrev pub mostBytes : ℕ
+mostBytes = sizeOf S.Server
+
+-- out is out₀ with these frames written from a place on, as far as the next place, which is within it
+pub record Written (out₀ : List ℕ) (at₀ : ℕ) (out : List ℕ) (at : ℕ) (fs : List (List ℕ)) : Type 0 where
+  pub buffer : out ≡ placed out₀ at₀ (textOf fs)
+  pub next : at ≡ at₀ + length (textOf fs)
+  pub within : at ≤ length out₀
+
+-- a server whose numbers have room in their fields, as a well-formed record's have
+pub record Small (s : Server) : Type 0 where
+  pub entries : s .log .len ≤ logLimit
+  pub reports : s .mail .queue .len ≤ queueLimit
+  pub source : s .mail .source ≤ mostServers
+  pub commit : s .head .commit ≤ logLimit
+
+-- how long a frame's line is, and the longest saved forms of a server and of a record
+abbrev pub lineLength : Sort → ℕ
+lineLength s = chars * sizeOf s + 1
+
+abbrev pub longestServer : ℕ
+longestServer = lineLength S.Server + logLimit * lineLength S.Entry + noteSlots * lineLength S.Note + queueLimit * lineLength S.Report
+
+abbrev pub longest : ℕ
+longest = lineLength S.First + mostServers * longestServer
+
+-- an ill-formed record is refused; a buffer that hasn't room for the longest is left as it is
+unfoldable pub savedOf : Cluster → ℕ → Saved
+savedOf c room = cond (wellFormed c) (cond (ltb room longest) NoRoom (Text (length (saveOf c)))) (Refused IllFormed)
+
+unfoldable pub savedOut : Cluster → List ℕ → List ℕ
+savedOut c out = cond (wellFormed c) (cond (ltb (length out) longest) out (placed out 0 (saveOf c))) out

@@ -1,0 +1,304 @@
+// The saved form of a record: lines of hexadecimal, a frame each, written into a buffer.
+ghost use mathlib.Core.Path.{_≡_};
+ghost use mathlib.Core.Bool.{true};
+ghost use mathlib.Core.List.{_∷_, [], map};
+ghost use Prim.Native.Nat.{_≤_, _<_, _+_, _*_};
+ghost use lib.ListN.{length, take};
+ghost use Rattle.base.specs.Numbers.{byte};
+ghost use Rattle.log.specs.Logs.{logLimit, live};
+ghost use Rattle.mail.specs.Queues.{queueLimit};
+ghost use Rattle.cluster.specs.Servers.{mostServers};
+ghost use Rattle.cluster.specs.WellFormed.{wellFormed};
+ghost use Rattle.saved.specs.Layout.{bytesOfFields, sortNumber, usedNotes, firstFrame, serverFrame, entryFrame, toldFields, noteFrame, reportFrame};
+ghost use Rattle.saved.specs.Saved.{edition, noteFrames, queuedReports, serverFrames, allFrames, textOf};
+ghost use Rattle.saved.specs.Written.{Written, Small, longestServer, savedOf, savedOut};
+use cluster::Cluster;
+use cluster::Server;
+use log::Entry;
+use log::Log;
+use mail::Mail;
+use mail::Note;
+use mail::Queue;
+use mail::Report;
+use replay::LINE_FEED;
+use steps::Refusal;
+use words::high;
+use words::low;
+
+// The edition that is written.
+pub const EDITION: u8 = 1;
+
+// How many bytes the frames have.
+pub const FIRST_BYTES: usize = 3;
+
+pub const SERVER_BYTES: usize = 17;
+
+pub const ENTRY_BYTES: usize = 10;
+
+pub const TOLD_BYTES: usize = 8;
+
+const FIRST_LINE: usize = hex::CHARS * FIRST_BYTES + 1;
+
+const SERVER_LINE: usize = hex::CHARS * SERVER_BYTES + 1;
+
+const ENTRY_LINE: usize = hex::CHARS * ENTRY_BYTES + 1;
+
+const TOLD_LINE: usize = hex::CHARS * TOLD_BYTES + 1;
+
+const LONGEST_SERVER: usize = SERVER_LINE
+    + log::LOG_LIMIT * ENTRY_LINE
+    + (mail::NOTE_SLOTS + mail::QUEUE_LIMIT) * TOLD_LINE;
+
+// The longest saved form: seven servers, each with all that it can hold.
+pub const LONGEST: usize = FIRST_LINE + cluster::MOST_SERVERS * LONGEST_SERVER;
+
+// The sorts of frames.
+pub enum Sort {
+    First,
+    Server,
+    Entry,
+    Note,
+    Report,
+}
+
+// What a saving gives: a text of so many bytes, or why there is none.
+pub enum Saved {
+    Text(usize),
+    NoRoom,
+    Refused(Refusal),
+}
+
+pub fn sort_number(s: Sort) -> u8
+    ensures { λ r. ⌜ r ≡ sortNumber s ⌝ }
+{
+    match s {
+        Sort::First => 0,
+        Sort::Server => 1,
+        Sort::Entry => 2,
+        Sort::Note => 3,
+        Sort::Report => 4,
+    }
+}
+
+// The edition and the server count.
+fn first_frame(size: usize) -> [u8; FIRST_BYTES]
+    requires { ⌜ size < byte ⌝ }
+    ensures { λ r. ⌜ r ≡ firstFrame edition size ⌝ }
+{
+    [sort_number(Sort::First), EDITION, size as u8]
+}
+
+// How many notes are used.
+fn used_notes(m: Mail) -> u8
+    ensures { λ r. ⌜ r ≡ usedNotes m ⌝ }
+{
+    let mut used: u8 = 0;
+    let mut i = 0;
+    while i < mail::NOTE_SLOTS {
+        let n = m.notes[i];
+        if !mail::is_unused(n) {
+            used += 1;
+        }
+        i += 1;
+    }
+    used
+}
+
+// What follows a server's frame, and then what the server keeps beside its log and its mail.
+fn server_frame(s: Server) -> [u8; SERVER_BYTES]
+    requires { ⌜ Small s ⌝ }
+    ensures { λ r. ⌜ r ≡ serverFrame s ⌝ }
+{
+    let len = s.log.len as u16;
+    let commit = s.head.commit as u16;
+    let m = s.mail;
+    let h = s.head;
+    [
+        sort_number(Sort::Server),
+        high(len),
+        low(len),
+        used_notes(m),
+        m.queue.len as u8,
+        m.source as u8,
+        h.primary as u8,
+        high(h.term),
+        low(h.term),
+        high(commit),
+        low(commit),
+        high(h.wall),
+        low(h.wall),
+        high(h.time.p),
+        low(h.time.p),
+        high(h.time.l),
+        low(h.time.l),
+    ]
+}
+
+// Term, key, value, time.
+fn entry_frame(e: Entry) -> [u8; ENTRY_BYTES]
+    ensures { λ r. ⌜ r ≡ entryFrame e ⌝ }
+{
+    [
+        sort_number(Sort::Entry),
+        high(e.term),
+        low(e.term),
+        e.key,
+        high(e.value),
+        low(e.value),
+        high(e.time.p),
+        low(e.time.p),
+        high(e.time.l),
+        low(e.time.l),
+    ]
+}
+
+// A frame of this sort that tells whose note it is, and its term, last term and length.
+fn told_frame(sort: u8, who: u8, n: Note) -> [u8; TOLD_BYTES]
+    ensures { λ r. ⌜ r ≡ sort ∷ bytesOfFields (toldFields who n) ⌝ }
+{
+    [
+        sort,
+        who,
+        high(n.term),
+        low(n.term),
+        high(n.last),
+        low(n.last),
+        high(n.len),
+        low(n.len),
+    ]
+}
+
+fn note_frame(who: usize, n: Note) -> [u8; TOLD_BYTES]
+    requires { ⌜ who < byte ⌝ }
+    ensures { λ r. ⌜ r ≡ noteFrame who n ⌝ }
+{
+    told_frame(sort_number(Sort::Note), who as u8, n)
+}
+
+fn report_frame(r: Report) -> [u8; TOLD_BYTES]
+    ensures { λ o. ⌜ o ≡ reportFrame r ⌝ }
+{
+    told_frame(sort_number(Sort::Report), r.who, mail::note_of(r))
+}
+
+// A frame's characters and a line feed, written at a place of the buffer; the place after them.
+fn put_line(out: &mut [u8], at: usize, frame: &[u8]) -> usize
+    requires { ⌜ at + length (textOf (now frame ∷ [])) ≤ length (now out) ⌝ }
+    ensures { λ r. ⌜ Written (now (out .entry)) at (now (out .exit)) r (now (frame .entry) ∷ []) ⌝ }
+{
+    let end = at + hex::CHARS * frame.len();
+    hex::enhex(frame, &mut out[at..end]);
+    out[end] = LINE_FEED;
+    end + 1
+}
+
+// A log's entries by position.
+fn put_entries(out: &mut [u8], at: usize, g: Log) -> usize
+    requires { ⌜ g .len ≤ logLimit ⌝ }
+    requires { ⌜ at + length (textOf (map entryFrame (live g))) ≤ length (now out) ⌝ }
+    ensures { λ r. ⌜ Written (now (out .entry)) at (now (out .exit)) r (map entryFrame (live g)) ⌝ }
+{
+    let len = g.len;
+    let mut w = at;
+    let mut i = 0;
+    while i < len {
+        let f = entry_frame(g.entries[i]);
+        w = put_line(out, w, &f);
+        i += 1;
+    }
+    w
+}
+
+// The note about a server, where it is used.
+fn put_note(out: &mut [u8], at: usize, who: usize, n: Note) -> usize
+    requires { ⌜ who < byte ⌝ }
+    requires { ⌜ at + length (textOf (noteFrames who (n ∷ []))) ≤ length (now out) ⌝ }
+    ensures { λ r. ⌜ Written (now (out .entry)) at (now (out .exit)) r (noteFrames who (n ∷ [])) ⌝ }
+{
+    if mail::is_unused(n) {
+        return at;
+    }
+    let f = note_frame(who, n);
+    put_line(out, at, &f)
+}
+
+// The used notes by server number.
+fn put_notes(out: &mut [u8], at: usize, m: Mail) -> usize
+    requires { ⌜ at + length (textOf (noteFrames 0 (m .notes))) ≤ length (now out) ⌝ }
+    ensures { λ r. ⌜ Written (now (out .entry)) at (now (out .exit)) r (noteFrames 0 (m .notes)) ⌝ }
+{
+    let mut w = at;
+    let mut i = 0;
+    while i < mail::NOTE_SLOTS {
+        w = put_note(out, w, i, m.notes[i]);
+        i += 1;
+    }
+    w
+}
+
+// A queue's reports, oldest first.
+fn put_reports(out: &mut [u8], at: usize, q: Queue) -> usize
+    requires { ⌜ q .len ≤ queueLimit ⌝ }
+    requires { ⌜ at + length (textOf (map reportFrame (queuedReports q))) ≤ length (now out) ⌝ }
+    ensures { λ r. ⌜ Written (now (out .entry)) at (now (out .exit)) r (map reportFrame (queuedReports q)) ⌝ }
+{
+    let len = q.len;
+    let mut w = at;
+    let mut i = 0;
+    while i < len {
+        let f = report_frame(q.reports[i]);
+        w = put_line(out, w, &f);
+        i += 1;
+    }
+    w
+}
+
+// A server, its entries, its used notes, its reports.
+fn put_server(out: &mut [u8], at: usize, s: Server) -> usize
+    requires { ⌜ Small s ⌝ }
+    requires { ⌜ at + longestServer ≤ length (now out) ⌝ }
+    ensures frames { λ r. ⌜ Written (now (out .entry)) at (now (out .exit)) r (serverFrames s) ⌝ }
+    ensures short { λ r. ⌜ r ≤ at + longestServer ⌝ }
+{
+    let f = server_frame(s);
+    let g = s.log;
+    let m = s.mail;
+    let q = m.queue;
+    let past = put_line(out, at, &f);
+    let past = put_entries(out, past, g);
+    let past = put_notes(out, past, m);
+    put_reports(out, past, q)
+}
+
+// The counted servers.
+fn put_servers(out: &mut [u8], at: usize, c: Cluster) -> usize
+    requires { ⌜ wellFormed c ≡ true ⌝ }
+    requires { ⌜ at + mostServers * longestServer ≤ length (now out) ⌝ }
+    ensures { λ r. ⌜ Written (now (out .entry)) at (now (out .exit)) r (allFrames (take (c .count) (c .servers))) ⌝ }
+{
+    let count = c.count;
+    let mut w = at;
+    let mut i = 0;
+    while i < count {
+        w = put_server(out, w, c.servers[i]);
+        i += 1;
+    }
+    w
+}
+
+// Writes the saved form of a record at the buffer's beginning, where the record is well formed and the longest has room.
+pub fn save(c: Cluster, out: &mut [u8]) -> Saved
+    ensures result { λ r. ⌜ r ≡ savedOf c (length (now (out .entry))) ⌝ }
+    ensures output { λ _. ⌜ now (out .exit) ≡ savedOut c (now (out .entry)) ⌝ }
+{
+    if !cluster::well_formed(c) {
+        return Saved::Refused(Refusal::IllFormed);
+    }
+    if out.len() < LONGEST {
+        return Saved::NoRoom;
+    }
+    let f = first_frame(c.count);
+    let past = put_line(out, 0, &f);
+    let end = put_servers(out, past, c);
+    Saved::Text(end)
+}
