@@ -1,0 +1,287 @@
+// Loading a saved form: its text is decoded frame by frame, and taken where it is what the decoded record saves to.
+ghost use mathlib.Core.Path.{_≡_};
+ghost use mathlib.Core.Bool.{_&&_};
+ghost use Prim.Native.Nat.{_+_, _<_};
+ghost use Rattle.hex.specs.Lines.{bytesOf};
+ghost use Rattle.words.specs.Words.{wordAt};
+ghost use Rattle.cluster.specs.WellFormed.{wellFormed};
+ghost use Rattle.saved.specs.Saved.{saveOf};
+ghost use Rattle.saved.specs.Written.{mostBytes};
+ghost use Rattle.loads.specs.Decoded.{headIn, serverIn, entryIn, reportIn, toldBy, counting, beginning, telling, withFrame, roomy, freshDraft, decoded};
+ghost use Rattle.loads.specs.Loads.{sameText, loadOf, firstBad};
+use clock::Time;
+use cluster::Cluster;
+use cluster::Head;
+use cluster::Server;
+use log::Entry;
+use mail::Report;
+use saved::Saved;
+use steps::Answer;
+use steps::Outcome;
+use steps::Refusal;
+
+const LINE_FEED: u8 = 10;
+
+// The bytes of a frame in the room of the longest.
+const BYTES: usize = saved::SERVER_BYTES;
+
+// The sorts' numbers.
+const FIRST: u8 = 0;
+
+const SERVER: u8 = 1;
+
+const ENTRY: u8 = 2;
+
+const NOTE: u8 = 3;
+
+const REPORT: u8 = 4;
+
+// The role of a primary.
+const PRIMARY: u8 = 1;
+
+// A record that is being decoded, and how many of its servers were begun.
+struct Draft {
+    cluster: Cluster,
+    begun: usize,
+}
+
+// The number whose bytes stand at place i and after it.
+fn word_at(b: [u8; BYTES], i: usize) -> u16
+    requires { ⌜ i + 1 < mostBytes ⌝ }
+    ensures { λ r. ⌜ r ≡ wordAt b i ⌝ }
+{
+    words::word(b[i], b[i + 1])
+}
+
+fn head_in(b: [u8; BYTES]) -> Head
+    ensures { λ r. ⌜ r ≡ headIn b ⌝ }
+{
+    let p = word_at(b, 13);
+    let l = word_at(b, 15);
+    Head {
+        term: word_at(b, 7),
+        primary: b[6] == PRIMARY,
+        commit: word_at(b, 9) as usize,
+        wall: word_at(b, 11),
+        time: Time { p, l },
+    }
+}
+
+// The server that a server frame begins.
+fn server_in(b: [u8; BYTES]) -> Server
+    ensures { λ r. ⌜ r ≡ serverIn b ⌝ }
+{
+    Server {
+        head: head_in(b),
+        log: log::EMPTY_LOG,
+        mail: mail::with_source(mail::ZERO_MAIL, b[5] as usize),
+    }
+}
+
+fn entry_in(b: [u8; BYTES]) -> Entry
+    ensures { λ r. ⌜ r ≡ entryIn b ⌝ }
+{
+    let p = word_at(b, 6);
+    let l = word_at(b, 8);
+    Entry {
+        term: word_at(b, 1),
+        key: b[3],
+        value: word_at(b, 4),
+        time: Time { p, l },
+    }
+}
+
+// What a note's or a report's frame says.
+fn report_in(b: [u8; BYTES]) -> Report
+    ensures { λ r. ⌜ r ≡ reportIn b ⌝ }
+{
+    Report {
+        who: b[1],
+        term: word_at(b, 2),
+        last: word_at(b, 4),
+        len: word_at(b, 6),
+    }
+}
+
+// The server with what an entry's, a note's or a report's frame tells.
+fn told_by(s: Server, b: [u8; BYTES]) -> Server
+    ensures { λ r. ⌜ r ≡ toldBy s b ⌝ }
+{
+    let sort = b[0];
+    let g = s.log;
+    let m = s.mail;
+    match sort {
+        ENTRY => Server {
+            log: log::append(g, entry_in(b)),
+            ..s
+        },
+        NOTE => Server {
+            mail: mail::noted(m, report_in(b)),
+            ..s
+        },
+        REPORT => Server {
+            mail: mail::received(m, report_in(b)),
+            ..s
+        },
+        _ => s,
+    }
+}
+
+fn counting(d: Draft, n: usize) -> Draft
+    ensures { λ r. ⌜ r ≡ counting d n ⌝ }
+{
+    let c = d.cluster;
+    Draft {
+        cluster: Cluster { count: n, ..c },
+        begun: d.begun,
+    }
+}
+
+// The next server is begun, where there is a place for it.
+fn beginning(d: Draft, s: Server) -> Draft
+    ensures { λ r. ⌜ r ≡ beginning d s ⌝ }
+{
+    let n = d.begun;
+    if cluster::MOST_SERVERS <= n {
+        return d;
+    }
+    let c = d.cluster;
+    Draft {
+        cluster: cluster::with_server(c, n, s),
+        begun: n + 1,
+    }
+}
+
+// The server that was begun last is told more.
+fn telling(d: Draft, b: [u8; BYTES]) -> Draft
+    ensures { λ r. ⌜ r ≡ telling d b ⌝ }
+{
+    let n = d.begun;
+    if n < 1 {
+        return d;
+    }
+    if cluster::MOST_SERVERS < n {
+        return d;
+    }
+    let mut c = d.cluster;
+    let s = c.servers[n - 1];
+    let t = told_by(s, b);
+    c.servers[n - 1] = t;
+    Draft {
+        cluster: c,
+        begun: n,
+    }
+}
+
+fn with_frame(d: Draft, b: [u8; BYTES]) -> Draft
+    ensures { λ r. ⌜ r ≡ withFrame d b ⌝ }
+{
+    let sort = b[0];
+    match sort {
+        FIRST => counting(d, b[2] as usize),
+        SERVER => beginning(d, server_in(b)),
+        _ => telling(d, b),
+    }
+}
+
+// The frame of a line, of any length.
+fn with_line(d: Draft, line: &[u8]) -> Draft
+    ensures { λ r. ⌜ r ≡ withFrame d (roomy (bytesOf (now (line .entry)))) ⌝ }
+{
+    let mut b = [0u8; BYTES];
+    hex::unhex(line, &mut b);
+    with_frame(d, b)
+}
+
+fn fresh_draft() -> Draft
+    ensures { λ r. ⌜ r ≡ freshDraft ⌝ }
+{
+    Draft {
+        cluster: cluster::ZERO_CLUSTER,
+        begun: 0,
+    }
+}
+
+// What a text decodes to, with nothing checked.
+pub fn decode(text: &[u8]) -> Cluster
+    ensures { λ r. ⌜ r ≡ decoded (now (text .entry)) ⌝ }
+{
+    let mut d = fresh_draft();
+    let mut start: usize = 0;
+    let mut i: usize = 0;
+    while i < text.len() {
+        if text[i] == LINE_FEED {
+            d = with_line(d, &text[start..i]);
+            start = i + 1;
+        }
+        i += 1;
+    }
+    if start < i {
+        d = with_line(d, &text[start..i]);
+    }
+    d.cluster
+}
+
+// Whether two texts are the same.
+pub fn same_text(a: &[u8], b: &[u8]) -> bool
+    ensures { λ r. ⌜ r ≡ sameText (now (a .entry)) (now (b .entry)) ⌝ }
+{
+    if a.len() != b.len() {
+        return false;
+    }
+    let mut i: usize = 0;
+    while i < a.len() {
+        if a[i] != b[i] {
+            return false;
+        }
+        i += 1;
+    }
+    true
+}
+
+// The first server that isn't as its place asks, 7 where each is.
+pub fn first_bad(c: Cluster) -> usize
+    ensures { λ r. ⌜ r ≡ firstBad c ⌝ }
+{
+    let count = c.count;
+    let mut i = 0;
+    while i < cluster::MOST_SERVERS {
+        let s = c.servers[i];
+        if !cluster::server_ok(s, count, i) {
+            return i;
+        }
+        i += 1;
+    }
+    i
+}
+
+// Whether a record is well formed and the text is its saved form.
+fn saves_to(d: Cluster, text: &[u8]) -> bool
+    ensures { λ r. ⌜ r ≡ (wellFormed d && sameText (saveOf d) (now (text .entry))) ⌝ }
+{
+    let mut out = [0u8; saved::LONGEST];
+    let wrote = saved::save(d, &mut out);
+    match wrote {
+        Saved::Text(n) => same_text(&out[..n], text),
+        Saved::NoRoom => false,
+        Saved::Refused(_) => false,
+    }
+}
+
+// The record that the text is the saved form of, or the record that was given and why it isn't loaded: the shape is asked for first.
+pub fn load(c: Cluster, text: &[u8]) -> Outcome
+    ensures { λ r. ⌜ r ≡ loadOf c (now (text .entry)) ⌝ }
+{
+    let shape = shapes::walk(shapes::begin(), text);
+    if !shapes::is_shaped(shape) {
+        return steps::refuse_all(c, Refusal::NotAFrame);
+    }
+    let d = decode(text);
+    if !saves_to(d, text) {
+        return steps::refuse_all(c, Refusal::IllFormed);
+    }
+    Outcome {
+        cluster: d,
+        answer: Answer::Done,
+    }
+}

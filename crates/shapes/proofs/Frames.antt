@@ -1,0 +1,74 @@
+-- No frame is longer than what is kept, and what is read of its bytes is the same where zeros follow them. Assumes nothing.
+use mathlib.Core.Path.{_≡_, refl, ap, _∙_}
+use mathlib.Core.Bool.{Bool, _&&_}
+use mathlib.Core.List.{List, [], _∷_, _++_}
+use Prim.Native.Nat.{ℕ, zero, suc, _*_, _≤_, min}
+use native.Mathlib.Omega.{arith}
+use lib.Dec.{eqb}
+use lib.ListN.{length, getD, drop, replicate, length-replicate}
+use lib.Seq.{take-length, getD-drop}
+use Rattle.base.specs.Lists.{joinedAt}
+use Rattle.hex.specs.Lines.{chars, bytesOf, over}
+use Rattle.hex.proofs.Places.{bytes-length}
+use Rattle.words.specs.Words.{byteAt, wordOf}
+use Rattle.saved.specs.declared.Sort.{Sort}
+use Rattle.saved.specs.declared.Sort.the-variants as S
+use Rattle.saved.specs.Layout.{sortNumber, sizeOf}
+use Rattle.saved.specs.Shape.{editionOk}
+use Rattle.saved.specs.Written.{mostBytes}
+use Rattle.shapes.specs.declared.Left.{Left}
+use Rattle.shapes.specs.Walk.{kept, leftAfter}
+
+pub small : (k : Sort) → chars * sizeOf k ≤ kept
+small S.First = omega arith
+small S.Server = omega arith
+small S.Entry = omega arith
+small S.Note = omega arith
+small S.Report = omega arith
+
+zeros : ℕ → List ℕ
+zeros n = replicate n 0
+
+zero-at : (n i : ℕ) → getD (zeros n) i 0 ≡ 0
+unfolding zeros
+zero-at zero i = refl
+zero-at (suc n) zero = refl
+zero-at (suc n) (suc i) = zero-at n i
+
+then-zeros : (bs zs : List ℕ) → ((i : ℕ) → getD zs i 0 ≡ 0) → (i : ℕ) → getD (bs ++ zs) i 0 ≡ getD bs i 0
+then-zeros [] zs h i = h i
+then-zeros (b ∷ bs) zs h zero = refl
+then-zeros (b ∷ bs) zs h (suc i) = then-zeros bs zs h i
+
+over-zeros : (n : ℕ) (bs : List ℕ) → length bs ≤ n → (i : ℕ) → byteAt (over bs (replicate n 0)) i ≡ byteAt bs i
+unfolding zeros
+over-zeros n bs h i =
+    let m : min (length bs) (length (zeros n)) ≡ length bs = omega (arith, length-replicate {A = ℕ} n 0) in
+    ap (λ (k : ℕ). byteAt (joinedAt k bs (zeros n)) i) m ∙ ap (λ (x : List ℕ). byteAt (x ++ drop (length bs) (zeros n)) i) (take-length bs)
+    ∙ then-zeros bs (drop (length bs) (zeros n)) (λ j. getD-drop (length bs) (zeros n) j 0 ∙ zero-at n _) i
+
+-- the bytes that `bytes_in` gives
+pub bytes-same : (line bs : List ℕ) → length line ≤ kept → bs ≡ over (bytesOf line) (replicate mostBytes 0) → (i : ℕ) → byteAt bs i ≡ byteAt (bytesOf line) i
+bytes-same line bs h e i = ap (λ (x : List ℕ). byteAt x i) e ∙ over-zeros mostBytes (bytesOf line) (omega (arith, bytes-length line)) i
+
+-- what a frame says of itself
+abbrev pub saysSo : Sort → List ℕ → Bool
+saysSo k bs = eqb (byteAt bs 0) (sortNumber k) && editionOk k bs
+
+module _ (bs cs : List ℕ) (same : (i : ℕ) → byteAt bs i ≡ byteAt cs i) where
+  edition-same : (k : Sort) → editionOk k bs ≡ editionOk k cs
+  edition-same S.First = rw (same 1)
+  edition-same S.Server = refl
+  edition-same S.Entry = refl
+  edition-same S.Note = refl
+  edition-same S.Report = refl
+
+  pub says-same : (k : Sort) → saysSo k bs ≡ saysSo k cs
+  says-same k = ap (λ (n : ℕ). eqb n (sortNumber k) && editionOk k bs) (same 0) ∙ ap (λ (t : Bool). eqb (byteAt cs 0) (sortNumber k) && t) (edition-same k)
+
+  pub left-same : (k : Sort) (l : Left) → leftAfter k bs l ≡ leftAfter k cs l
+  left-same S.First l = rw (same 2)
+  left-same S.Server l = rw (same 1, same 2, same 3, same 4)
+  left-same S.Entry l = refl
+  left-same S.Note l = refl
+  left-same S.Report l = refl

@@ -1,0 +1,64 @@
+-- What a line feed does, a law for each way that the line is judged. Assumes nothing.
+use mathlib.Core.Path.{_≡_, refl, sym, ap, _∙_}
+use mathlib.Core.Bool.{Bool, true, false, cond}
+use mathlib.Core.List.{List}
+use Prim.Native.Nat.{ℕ, _≤_, _<_, min}
+use native.Mathlib.Omega.{arith}
+use lib.ListN.{length, take, replicate, length-take}
+use Rattle.hex.specs.Lines.{bytesOf, over}
+use Rattle.words.proofs.Held.{held-over, held-past, held-within}
+use Rattle.saved.specs.declared.Sort.{Sort}
+use Rattle.saved.specs.Layout.{sizeOf}
+use Rattle.saved.specs.Shape.{isFrame}
+use Rattle.saved.specs.Written.{mostBytes}
+use Rattle.shapes.specs.declared.Left.{Left}
+use Rattle.shapes.specs.declared.Shape.{Shape}
+use Rattle.shapes.specs.declared.Due.{Due}
+use Rattle.shapes.specs.declared.Due.the-variants.{Frame, End}
+use Rattle.shapes.specs.Walk.{kept, dueOf, leftAfter, numberAfter, lineHeld, brokenAt, nextLine, endedAs, lineEnded}
+use Rattle.shapes.proofs.Frames.{small, bytes-same, saysSo, left-same}
+
+module _ (s : Shape) where
+  pub judged-end : dueOf (s .left) ≡ End → brokenAt s ≡ lineEnded s
+  unfolding endedAs
+  judged-end e = sym (ap (λ (d : Due). endedAs d s) e)
+
+  module _ (k : Sort) (due : dueOf (s .left) ≡ Frame k) where
+    by-test : (t : Bool) → isFrame k (lineHeld s) ≡ t → cond t (nextLine k (bytesOf (lineHeld s)) s) (brokenAt s) ≡ lineEnded s
+    unfolding endedAs
+    by-test t e =
+        sym (ap (λ (d : Due). endedAs d s) due ∙ ap (λ (x : Bool). cond x (nextLine k (bytesOf (lineHeld s)) s) (brokenAt s)) e)
+
+    pub judged-over : s .over ≡ true → brokenAt s ≡ lineEnded s
+    unfolding isFrame
+    judged-over e = by-test false (sym (held-over (sizeOf k) (saysSo k) false kept (small k) (s .held) (s .fill) (s .over) e))
+
+    pub judged-past : kept < s .fill → brokenAt s ≡ lineEnded s
+    unfolding isFrame
+    judged-past h = by-test false (sym (held-past (sizeOf k) (saysSo k) false kept (small k) (s .held) (s .fill) (s .over) h))
+
+    module _ (o : s .over ≡ false) (h : s .fill ≤ kept) where
+      pub judged-other : isFrame k (take (s .fill) (s .held)) ≡ false → brokenAt s ≡ lineEnded s
+      judged-other e = by-test false (ap (isFrame k) (sym (held-within kept (s .held) (s .fill) (s .over) o h)) ∙ e)
+
+      pub judged-frame : (q : Shape) (bs : List ℕ) → isFrame k (take (s .fill) (s .held)) ≡ true
+          → bs ≡ over (bytesOf (take (s .fill) (s .held))) (replicate mostBytes 0) → q ≡ nextLine k bs s → q ≡ lineEnded s
+      judged-frame q bs e f g =
+          let line = take (s .fill) (s .held) in
+          let held : line ≡ lineHeld s = held-within kept (s .held) (s .fill) (s .over) o h in
+          let same = left-same bs (bytesOf line) (bytes-same line bs (omega (arith, length-take (s .fill) (s .held))) f) k (s .left) in
+          g ∙ (λ i. record { left = same i; held = replicate kept 0; fill = 0; over = false; number = numberAfter (s .number); broken = s .broken })
+          ∙ ap (λ (x : List ℕ). nextLine k (bytesOf x) s) held ∙ by-test true (ap (isFrame k) (sym held) ∙ e)
+
+-- as many characters are kept as before
+pub ended-slots : (s : Shape) → length (s .held) ≡ kept → length (lineEnded s .held) ≡ kept
+unfolding endedAs
+ended-slots s l = go (dueOf (s .left))
+  where
+    by : (k : Sort) (t : Bool) → length (cond {A = Shape} t (nextLine k (bytesOf (lineHeld s)) s) (brokenAt s) .held) ≡ kept
+    by k true = refl
+    by k false = l
+
+    go : (d : Due) → length (endedAs d s .held) ≡ kept
+    go (Frame k) = by k (isFrame k (lineHeld s))
+    go End = l

@@ -1,0 +1,6 @@
+-- Laws of the walk over a text. Assumes nothing.
+pub mod Frames
+pub mod Ahead
+pub mod Told
+pub mod Judged
+pub mod Results

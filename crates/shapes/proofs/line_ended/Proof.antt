@@ -1,0 +1,138 @@
+use mathlib.Core.Path.{_≡_, sym, _∙_}
+use native.Mathlib.Omega.{arith}
+use lib.ListN.{length}
+use lib.Seq.{length-take-le}
+use Rattle.base.proofs.Bools.{said-no, said-yes}
+use Rattle.base.proofs.Facts.{mapped-long}
+use Rattle.saved.specs.declared.Sort.{Sort}
+use Rattle.shapes.specs.declared.Due.the-variants.{Frame}
+use Rattle.shapes.specs.Walk.{kept, dueOf}
+use Rattle.shapes.proofs.Judged.{judged-end, judged-over, judged-past, judged-other, judged-frame}
+use borrow.Author.Needs.{needs}
+use Rattle.shapes.proofs.line_ended.Statement.{statement}
+use Rattle.shapes.proofs.line_ended.Tie as tie
+use Rattle.shapes.proofs.line_ended.Reads as reads
+use Rattle.shapes.proofs.line_ended.Lts as lts
+use Rattle.shapes.proofs.broken_at.Reads as broken-at-reads
+use Rattle.shapes.proofs.bytes_in.Reads as bytes-in-reads
+use Rattle.shapes.proofs.expected.Reads as expected-reads
+use Rattle.shapes.proofs.is_frame.Reads as is-frame-reads
+use Rattle.shapes.proofs.next_line.Reads as next-line-reads
+
+-- the sort that is due
+abbrev sort : tie.After-known-told → Sort
+sort c = c .before .due .given .0 .0
+
+is-due : (c : tie.After-known-told) → dueOf (c .before .before .before .before .args .s .left) ≡ Frame (sort c)
+is-due c = sym (c .before .before .before .expected .ensures) ∙ c .before .due .given .1
+
+slots : (c : tie.Start) → length (c .args .s .held) ≡ kept
+slots c = search (needs, mapped-long)
+
+-- src/lib.rt:248:9
+expected-requires : tie.Need-expected-requires
+expected-requires c κs = search needs
+
+-- src/lib.rt:249:20
+enum-known-due : tie.Need-enum-known-due
+enum-known-due c = search needs
+
+-- src/lib.rt:250:9
+enum-told : tie.Need-enum-told
+enum-told c = search needs
+
+-- src/lib.rt:250:9
+broken-at-requires : tie.Need-broken-at-requires
+broken-at-requires c κs = search needs
+
+-- src/lib.rt:250:9
+returns : tie.Need-returns
+returns c = c .broken-at .ensures ∙ judged-end (c .before .before .before .before .args .s) (sym (c .before .before .before .expected .ensures) ∙ c .before .enum-told .given .1)
+
+-- src/lib.rt:253:9
+broken-at-requires-2 : tie.Need-broken-at-requires-2
+broken-at-requires-2 c κs = search needs
+
+-- src/lib.rt:253:9
+returns-2 : tie.Need-returns-2
+returns-2 c = let a = c .before .before in c .broken-at2 .ensures ∙ judged-over (a .before .before .before .before .args .s) (sort a) (is-due a) (c .before .if1 .taken)
+
+-- src/lib.rt:257:9
+broken-at-requires-3 : tie.Need-broken-at-requires-3
+broken-at-requires-3 c κs = search needs
+
+-- src/lib.rt:257:9
+returns-3 : tie.Need-returns-3
+returns-3 c = let a = c .before .before .before in c .broken-at3 .ensures ∙ judged-past (a .before .before .before .before .args .s) (sort a) (is-due a) (c .before .if2 .taken)
+
+-- src/lib.rt:260:21
+array-share-prefix-h : tie.Need-array-share-prefix-h
+array-share-prefix-h c = omega (arith, slots (c .before .before .before .before .before .before .before), c .before .if2 .left)
+
+-- src/lib.rt:260:21
+slice-aggregate-is-frame : tie.Need-slice-aggregate-is-frame
+slice-aggregate-is-frame c = let s = c .before .before .before .before .before .before .before .before .args .s in sym (length-take-le (s .fill) (s .held) (omega (arith, slots (c .before .before .before .before .before .before .before .before), c .before .before .if2 .left)))
+
+-- src/lib.rt:260:9
+is-frame-requires : tie.Need-is-frame-requires
+is-frame-requires c κs = search needs
+
+-- src/lib.rt:261:9
+broken-at-requires-4 : tie.Need-broken-at-requires-4
+broken-at-requires-4 c κs = search needs
+
+-- src/lib.rt:261:9
+returns-4 : tie.Need-returns-4
+returns-4 c =
+    let d = c .before in
+    let w = d .before .before .before .before in
+    let a = w .before .before in
+    c .broken-at4 .ensures ∙ judged-other (a .before .before .before .before .args .s) (sort a) (is-due a) (w .before .if1 .left) (w .if2 .left) (said-no _ _ (d .before .is-frame .ensures) (d .if3 .taken))
+
+-- src/lib.rt:263:22
+array-share-prefix-h-2 : tie.Need-array-share-prefix-h-2
+array-share-prefix-h-2 c = omega (arith, slots (c .before .before .before .before .before .before .before .before .before .before), c .before .before .before .before .if2 .left)
+
+-- src/lib.rt:263:22
+slice-aggregate-bytes-in : tie.Need-slice-aggregate-bytes-in
+slice-aggregate-bytes-in c = let s = c .before .before .before .before .before .before .before .before .before .before .before .args .s in sym (length-take-le (s .fill) (s .held) (omega (arith, slots (c .before .before .before .before .before .before .before .before .before .before .before), c .before .before .before .before .before .if2 .left)))
+
+-- src/lib.rt:263:9
+bytes-in-requires : tie.Need-bytes-in-requires
+bytes-in-requires c κs = search needs
+
+-- src/lib.rt:264:5
+next-line-requires : tie.Need-next-line-requires
+next-line-requires c κs = search needs
+
+-- src/lib.rt:245:1
+returns-5 : tie.Need-returns-5
+returns-5 c =
+    let d = c .before .before .before in
+    let w = d .before .before .before .before in
+    let a = w .before .before in
+    judged-frame (a .before .before .before .before .args .s) (sort a) (is-due a) (w .before .if1 .left) (w .if2 .left) _ _ (said-yes _ _ (d .before .is-frame .ensures) (d .if3 .left)) (c .before .bytes-in .ensures) (c .next-line .ensures)
+
+pub line-ended-spec : {M : Type 1} → statement M
+line-ended-spec =
+    tie.close
+    (tie.spec
+    expected-requires
+    enum-known-due
+    enum-told
+    broken-at-requires
+    returns
+    broken-at-requires-2
+    returns-2
+    broken-at-requires-3
+    returns-3
+    array-share-prefix-h
+    slice-aggregate-is-frame
+    is-frame-requires
+    broken-at-requires-4
+    returns-4
+    array-share-prefix-h-2
+    slice-aggregate-bytes-in
+    bytes-in-requires
+    next-line-requires
+    returns-5)

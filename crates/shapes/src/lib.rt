@@ -1,0 +1,312 @@
+// Whether a text has the shape of a saved form, told byte by byte with a few counters and one line, so in fixed memory.
+ghost use mathlib.Core.Path.{_≡_};
+ghost use mathlib.Core.Bool.{_&&_};
+ghost use Prim.Native.Nat.{_-_};
+ghost use lib.Dec.{eqb};
+ghost use lib.ListN.{replicate};
+ghost use Rattle.hex.specs.Lines.{bytesOf, over};
+ghost use Rattle.words.specs.Words.{byteAt};
+ghost use Rattle.saved.specs.Layout.{sortNumber, sizeOf};
+ghost use Rattle.saved.specs.Shape.{editionOk, isFrame};
+ghost use Rattle.saved.specs.Written.{mostBytes};
+ghost use Rattle.shapes.specs.Walk.{freshShape, dueOf, leftAfter, numberAfter, brokenAt, nextLine, lineEnded, walked, isShaped};
+use saved::Sort;
+use words::word;
+
+const LINE_FEED: u8 = 10;
+
+// The greatest number that a line can have.
+const MOST_LINES: usize = 0xffff_ffff_ffff_ffff;
+
+// The characters of the longest frame.
+pub const MOST_CHARS: usize = hex::CHARS * saved::SERVER_BYTES;
+
+// The frames that are still announced, and whether the first frame, which announces the servers, was read.
+pub struct Left {
+    pub begun: bool,
+    pub servers: usize,
+    pub entries: usize,
+    pub notes: usize,
+    pub reports: usize,
+}
+
+// How far the shape of a text is told: the frames that are left, the line that is being read (at most the longest frame's characters,
+// how many there are, and whether there were more), its number, and whether the shape is broken there.
+pub struct Shape {
+    pub left: Left,
+    pub held: [u8; MOST_CHARS],
+    pub fill: usize,
+    pub over: bool,
+    pub number: usize,
+    pub broken: bool,
+}
+
+// What is due next: a frame of a sort, or the end of the text.
+pub enum Due {
+    Frame(Sort),
+    End,
+}
+
+fn size_of(k: Sort) -> usize
+    ensures { λ r. ⌜ r ≡ sizeOf k ⌝ }
+{
+    match k {
+        Sort::First => saved::FIRST_BYTES,
+        Sort::Server => saved::SERVER_BYTES,
+        Sort::Entry => saved::ENTRY_BYTES,
+        Sort::Note => saved::TOLD_BYTES,
+        Sort::Report => saved::TOLD_BYTES,
+    }
+}
+
+fn number_of(k: Sort) -> u8
+    ensures { λ r. ⌜ r ≡ sortNumber k ⌝ }
+{
+    match k {
+        Sort::First => 0,
+        Sort::Server => 1,
+        Sort::Entry => 2,
+        Sort::Note => 3,
+        Sort::Report => 4,
+    }
+}
+
+fn edition_ok(k: Sort, b: [u8; saved::SERVER_BYTES]) -> bool
+    ensures { λ r. ⌜ r ≡ editionOk k b ⌝ }
+{
+    match k {
+        Sort::First => b[1] == saved::EDITION,
+        Sort::Server => true,
+        Sort::Entry => true,
+        Sort::Note => true,
+        Sort::Report => true,
+    }
+}
+
+// The bytes of a line, zeros after them.
+fn bytes_in(line: &[u8]) -> [u8; saved::SERVER_BYTES]
+    ensures { λ r. ⌜ r ≡ over (bytesOf (now (line .entry))) (replicate mostBytes 0) ⌝ }
+{
+    let mut b: [u8; saved::SERVER_BYTES] = [0; saved::SERVER_BYTES];
+    hex::unhex(line, &mut b);
+    b
+}
+
+// Whether a frame with these bytes says that it is of the sort.
+fn says(k: Sort, b: [u8; saved::SERVER_BYTES]) -> bool
+    ensures { λ r. ⌜ r ≡ (eqb (byteAt b 0) (sortNumber k) && editionOk k b) ⌝ }
+{
+    if b[0] != number_of(k) {
+        return false;
+    }
+    edition_ok(k, b)
+}
+
+// Whether the line is a frame of the sort.
+fn is_frame(k: Sort, line: &[u8]) -> bool
+    ensures { λ r. ⌜ r ≡ isFrame k (now (line .entry)) ⌝ }
+{
+    if line.len() != hex::CHARS * size_of(k) {
+        return false;
+    }
+    if !hex::all_hex(line) {
+        return false;
+    }
+    let b = bytes_in(line);
+    says(k, b)
+}
+
+fn one_less(n: usize) -> usize
+    ensures { λ r. ⌜ r ≡ n - 1 ⌝ }
+{
+    if n == 0 {
+        return 0;
+    }
+    n - 1
+}
+
+// What is left after a frame of the sort with these bytes.
+fn left_after(k: Sort, b: [u8; saved::SERVER_BYTES], l: Left) -> Left
+    ensures { λ r. ⌜ r ≡ leftAfter k b l ⌝ }
+{
+    match k {
+        Sort::First => Left {
+            begun: true,
+            servers: b[2] as usize,
+            entries: 0,
+            notes: 0,
+            reports: 0,
+        },
+        Sort::Server => Left {
+            begun: l.begun,
+            servers: one_less(l.servers),
+            entries: word(b[1], b[2]) as usize,
+            notes: b[3] as usize,
+            reports: b[4] as usize,
+        },
+        Sort::Entry => Left {
+            entries: one_less(l.entries),
+            ..l
+        },
+        Sort::Note => Left {
+            notes: one_less(l.notes),
+            ..l
+        },
+        Sort::Report => Left {
+            reports: one_less(l.reports),
+            ..l
+        },
+    }
+}
+
+fn due_of(l: Left) -> Due
+    ensures { λ r. ⌜ r ≡ dueOf l ⌝ }
+{
+    if !l.begun {
+        return Due::Frame(Sort::First);
+    }
+    if 0 < l.entries {
+        return Due::Frame(Sort::Entry);
+    }
+    if 0 < l.notes {
+        return Due::Frame(Sort::Note);
+    }
+    if 0 < l.reports {
+        return Due::Frame(Sort::Report);
+    }
+    if 0 < l.servers {
+        return Due::Frame(Sort::Server);
+    }
+    Due::End
+}
+
+fn number_after(n: usize) -> usize
+    ensures { λ r. ⌜ r ≡ numberAfter n ⌝ }
+{
+    if n < MOST_LINES {
+        return n + 1;
+    }
+    n
+}
+
+// The shape of a text of which nothing was read.
+pub fn begin() -> Shape
+    ensures { λ r. ⌜ r ≡ freshShape ⌝ }
+{
+    Shape {
+        left: Left {
+            begun: false,
+            servers: 0,
+            entries: 0,
+            notes: 0,
+            reports: 0,
+        },
+        held: [0; MOST_CHARS],
+        fill: 0,
+        over: false,
+        number: 1,
+        broken: false,
+    }
+}
+
+// What is due next: where the shape is broken, what its line should have been.
+pub fn expected(s: Shape) -> Due
+    ensures { λ r. ⌜ r ≡ dueOf (s .left) ⌝ }
+{
+    let l = s.left;
+    due_of(l)
+}
+
+fn broken_at(s: Shape) -> Shape
+    ensures { λ r. ⌜ r ≡ brokenAt s ⌝ }
+{
+    let mut q = s;
+    q.broken = true;
+    q
+}
+
+// A frame of the sort came with these bytes, and the next line begins.
+fn next_line(k: Sort, b: [u8; saved::SERVER_BYTES], s: Shape) -> Shape
+    ensures { λ r. ⌜ r ≡ nextLine k b s ⌝ }
+{
+    let l = s.left;
+    let left = left_after(k, b, l);
+    Shape {
+        left: left,
+        held: [0; MOST_CHARS],
+        fill: 0,
+        over: false,
+        number: number_after(s.number),
+        broken: s.broken,
+    }
+}
+
+// A line feed came: the line is judged by what is due.
+fn line_ended(s: Shape) -> Shape
+    ensures { λ r. ⌜ r ≡ lineEnded s ⌝ }
+{
+    let due = expected(s);
+    let Due::Frame(k) = due else {
+        return broken_at(s);
+    };
+    if s.over {
+        return broken_at(s);
+    }
+    let n = s.fill;
+    if MOST_CHARS < n {
+        return broken_at(s);
+    }
+    let h = s.held;
+    if !is_frame(k, &h[..n]) {
+        return broken_at(s);
+    }
+    let b = bytes_in(&h[..n]);
+    next_line(k, b, s)
+}
+
+// The shape after one piece more of the text.
+pub fn walk(s: Shape, piece: &[u8]) -> Shape
+    ensures { λ r. ⌜ r ≡ walked s (now (piece .entry)) ⌝ }
+{
+    let mut q = s;
+    let mut i: usize = 0;
+    while i < piece.len() {
+        if q.broken {
+            return q;
+        }
+        let b = piece[i];
+        i += 1;
+        if b == LINE_FEED {
+            q = line_ended(q);
+            continue;
+        }
+        let at = q.fill;
+        if at < MOST_CHARS {
+            q.held[at] = b;
+            q.fill = at + 1;
+            continue;
+        }
+        q.over = true;
+    }
+    q
+}
+
+// Whether the text that was read has the shape of a saved form: it isn't broken, no line is begun, and nothing is due.
+pub fn is_shaped(s: Shape) -> bool
+    ensures { λ r. ⌜ r ≡ isShaped s ⌝ }
+{
+    if s.broken {
+        return false;
+    }
+    if s.over {
+        return false;
+    }
+    if s.fill != 0 {
+        return false;
+    }
+    let due = expected(s);
+    match due {
+        Due::Frame(_) => false,
+        Due::End => true,
+    }
+}
