@@ -109,6 +109,25 @@ use Rattle.safety.specs.Newest.{NewestPromised, NewestRun, readAfter}
 use Rattle.safety.proofs.Newest as newest
 use Rattle.safety.proofs.NewestExample as overtaken
 use Rattle.safety.proofs.StaleExample as stale
+use borrow.Author.Tests.{le-ltb}
+use Rattle.replay.specs.Pieces.{placed}
+use Rattle.saved.specs.declared.Saved.{Saved}
+use Rattle.saved.specs.declared.Saved.the-variants as saving
+use Rattle.saved.specs.Saved.{saveOf}
+use Rattle.saved.specs.Shape.{shaped}
+use Rattle.saved.specs.Written.{longest, savedOf, savedOut}
+use Rattle.saved.proofs.Frames as saved-frames
+use Rattle.saved.proofs.save.Reads as save-contract
+use Rattle.shapes.specs.declared.Shape.{Shape}
+use Rattle.shapes.specs.Walk.{freshShape, walked, isShaped}
+use Rattle.shapes.proofs.Told as shapes
+use Rattle.loads.specs.Loads.{loadOf}
+use Rattle.loads.specs.Statements.{LoadsExactly, NoFrameExactly, IllFormedExactly, LoadsOrRefuses, GivesBack, OneEach}
+use Rattle.loads.proofs.Loads as loads
+use Rattle.loads.proofs.load.Reads as load-contract
+use Rattle.carried.specs.Promise.{CarriedPromised, NewestCarriedPromised, CarriedInTexts}
+use Rattle.carried.proofs.Carried as carried
+use Rattle.carried.proofs.Texts as carried-texts
 use Rattle.demand3.specs.Promise.{PromisedInTexts, Never9InTexts, Never9Written, EveryRun}
 use Rattle.demand3.proofs.Promise as lines
 use Rattle.demand3.specs.Newest.{NewestInTexts, EveryNewestRun}
@@ -298,6 +317,64 @@ an-overtaken-primary-appends = overtaken.appends
 pub an-overtaken-primary-is-never-answered : (after : List Step) → StepsFrom (stepOf overtaken.behind (WritesNothing 0) .cluster) after
     → (q key v : ℕ) (t : Time) → stepOf (readAfter overtaken.behind 0 after) (NewestRead q key 1 1) .answer ≢ A.Value v t
 an-overtaken-primary-is-never-answered = overtaken.never-answered
+
+-- ---- saving and loading
+
+-- a well-formed record's saved form is written where the longest has room, an ill-formed one is refused with 2, and else the buffer is as it was
+pub save-is : (κs : Lfts 1) (c : Cluster) (out o : RefT (List ℕ)) (r : Saved) → save-contract.Learnt κs (c, (out, tt)) r (c, (o, tt))
+    → (r ≡ savedOf c (length (now out))) × (now o ≡ savedOut c (now out))
+save-is κs c out o r e = e
+
+pub a-record-is-saved : (c : Cluster) (out : List ℕ) → wellFormed c ≡ true → longest ≤ length out
+    → (savedOf c (length out) ≡ saving.Text (length (saveOf c))) × (savedOut c out ≡ placed out 0 (saveOf c))
+unfolding savedOf savedOut
+a-record-is-saved c out w l = (rw (w, le-ltb (length out) longest l), rw (w, le-ltb (length out) longest l))
+
+pub an-ill-formed-record-is-not : (c : Cluster) (out : List ℕ) → wellFormed c ≡ false → (savedOf c (length out) ≡ saving.Refused IllFormed) × (savedOut c out ≡ out)
+unfolding savedOf savedOut
+an-ill-formed-record-is-not c out w = (rw w, rw w)
+
+pub no-saved-form-is-longer : (c : Cluster) → Fits c → wellFormed c ≡ true → length (saveOf c) ≤ longest
+no-saved-form-is-longer = saved-frames.saved-length
+
+-- what a text loads to, or is refused with, is decided by the saved form and the shape
+pub load-is : (κs : Lfts 1) (c : Cluster) (text : RefT (List ℕ)) (r : Outcome) → load-contract.Learnt κs (c, (text, tt)) r (c, (text, tt)) → r ≡ loadOf c (now text)
+load-is κs c text r e = e
+
+pub loads-exactly : LoadsExactly
+loads-exactly = loads.loads-exactly
+
+pub refused-with-1-exactly : NoFrameExactly
+refused-with-1-exactly = loads.no-frame-exactly
+
+pub refused-with-2-exactly : IllFormedExactly
+refused-with-2-exactly = loads.ill-formed-exactly
+
+pub loads-or-refuses : LoadsOrRefuses
+loads-or-refuses = loads.loads-or-refuses
+
+pub reading-gives-back : GivesBack
+reading-gives-back = loads.gives-back
+
+pub one-saved-form-each : OneEach
+one-saved-form-each = loads.one-each
+
+-- the shape is told in whatever pieces the text arrives
+pub the-shape-is-told : (text : List ℕ) → isShaped (walked freshShape text) ≡ shaped text
+the-shape-is-told = shapes.told
+
+pub in-any-pieces : (s : Shape) (x y : List ℕ) → walked s (x ++ y) ≡ walked (walked s x) y
+in-any-pieces = shapes.walked-append
+
+-- a record that was saved and loaded carries its run on
+pub demand-3-over-savings : CarriedPromised
+demand-3-over-savings = carried.demand-3-carried
+
+pub newest-over-savings : NewestCarriedPromised
+newest-over-savings = carried.newest-carried
+
+pub lines-carried-on : CarriedInTexts
+lines-carried-on = carried-texts.carried-in-texts
 
 -- ---- what the definitions mean, beside document 01
 
