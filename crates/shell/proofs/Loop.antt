@@ -1,5 +1,5 @@
 -- The program's loop, a law for each way that a turn can go. Assumes nothing.
-use mathlib.Core.Path.{_≡_, refl, sym, ap, _∙_}
+use mathlib.Core.Path.{_≡_, refl, sym, ap, _∙_, subst}
 use mathlib.Core.Bool.{Bool, true, false, cond}
 use mathlib.Core.List.{List, [], _∷_, _++_}
 use Prim.Native.Nat.{ℕ, _≤_, _<_, _*_, _+_, _-_, min}
@@ -11,18 +11,21 @@ use lib.Signed.{ltZ}
 use mir.Syntax.{w64}
 use mir.Val.{SFits, toZ, ofZ}
 use mir.ValLaws.{toZ-ofZ}
-use borrow.Author.Tests.{ne-eqb, ltb-true}
+use borrow.Author.Tests.{ne-eqb, ltb-true, le-ltb}
 use Rattle.io.specs.Counts.{clamped}
+use Rattle.base.proofs.Bools.{not-both}
 use Rattle.cluster.specs.declared.Cluster.{Cluster}
 use Rattle.replay.specs.declared.Session.{Session}
 use Rattle.replay.specs.declared.Fed.{Fed}
+use Rattle.replay.specs.declared.Finished.{Finished}
 use Rattle.replay.specs.Texts.{answers, leaves}
-use Rattle.replay.specs.Pieces.{answerLine, begun, runs, says, together, runsAll, saysAll, placed, fedOf, fedOut, ending, ended}
+use Rattle.replay.specs.Pieces.{answerLine, begun, runs, says, together, runsAll, saysAll, placed, fedOf, fedOut, isEmpty, ending, ended, finishOf}
 use Rattle.replay.proofs.Whole.{any-pieces, any-pieces-record}
 use Rattle.replay.proofs.Parts.{fed-all, fed-all-out}
 use Rattle.shell.specs.declared.End.the-variants.{More, Input, CannotRead, CannotWrite}
 use Rattle.shell.specs.declared.Drained.{Drained}
-use Rattle.shell.specs.Loop.{endOf, given, mostTurns, Poured, Turned, Drains}
+use Rattle.shell.specs.declared.saves.Led.{Led}
+use Rattle.shell.specs.Loop.{endOf, given, mostTurns, Poured, Turned, Drains, Answered}
 
 pub poured : (s : Session) (piece out out′ : List ℕ) (f : Fed) (wrote : Bool) → answerLine * length piece ≤ length out
     → f ≡ fedOf s piece (length out) → out′ ≡ fedOut s piece out
@@ -115,3 +118,22 @@ drained-record c r d = ap ended (d .session) ∙ any-pieces-record c (d .pieces)
 
 pub drained-says : (c : Cluster) (r : Drained) (d : Drains (begun c) r) → saysAll (begun c) (d .pieces) ++ ending (r .session) ≡ answers c (together (d .pieces))
 drained-says c r d = ap (λ (s : Session). saysAll (begun c) (d .pieces) ++ ending s) (d .session) ∙ any-pieces c (d .pieces)
+
+-- ---- the whole input
+
+-- with room for an answer line, the record after the end
+pub finished-record : (s : Session) (room : ℕ) (f : Finished) → answerLine ≤ room → f ≡ finishOf s room → f .session .cluster ≡ ended s
+unfolding finishOf ended
+finished-record s room f h e = ap (λ (x : Finished). x .session .cluster) e ∙ go (isEmpty (s .reader)) refl
+  where
+    go : (x : Bool) → isEmpty (s .reader) ≡ x → finishOf s room .session .cluster ≡ ended s
+    go true k = simp (k, le-ltb room answerLine h)
+    go false k = simp (k, le-ltb room answerLine h)
+
+pub answered-all : (c : Cluster) (s : Session) (d : Drained) (r : Led) → s ≡ begun c → Drains s d → r .cluster ≡ ended (d .session) → Answered c r
+answered-all c s d r b g e =
+    let h = subst (λ (x : Session). Drains x d) b g in
+    record { pieces = h .pieces; record-left = λ _. e ∙ drained-record c d h }
+
+pub answered-not : (c : Cluster) (r : Led) → r .well ≡ false → Answered c r
+answered-not c r e = record { pieces = []; record-left = λ h. not-both _ h e }

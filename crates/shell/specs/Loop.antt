@@ -2,17 +2,20 @@
 -- `pour` and `turn` do follows, and `any-pieces` of `replay` says what pieces come to. Assumes nothing.
 use mathlib.Core.Path.{_≡_}
 use mathlib.Core.List.{List}
-use mathlib.Core.Bool.{Bool, cond}
+use mathlib.Core.Bool.{Bool, true, cond}
 use Prim.Native.Nat.{ℕ}
 use lib.Dec.{eqb}
 use lib.ListN.{length, take}
 use lib.IntN.{ℤ, pos, negsuc}
 use Rattle.io.specs.Counts.{clamped}
+use Rattle.cluster.specs.declared.Cluster.{Cluster}
 use Rattle.replay.specs.declared.Session.{Session}
-use Rattle.replay.specs.Pieces.{runs, runsAll}
+use Rattle.replay.specs.Texts.{leaves}
+use Rattle.replay.specs.Pieces.{together, runs, runsAll}
 use Rattle.shell.specs.declared.End.{End}
 use Rattle.shell.specs.declared.End.the-variants.{More, Input, CannotRead, CannotWrite}
 use Rattle.shell.specs.declared.Drained.{Drained}
+use Rattle.shell.specs.declared.saves.Led.{Led}
 
 -- how many bytes are read at once, and as many turns as a u64 counts
 abbrev pub mostPiece : ℕ
@@ -52,3 +55,8 @@ pub record Drains (s : Session) (r : Drained) : Type 0 where
   pub wrote : Bool
   pub end : r .end ≡ endOf last wrote
   pub patient : r .end ≡ More → length pieces ≡ mostTurns
+
+-- a whole input: where all went well, the record is the one that the pieces, as one text, leave
+pub record Answered (c : Cluster) (r : Led) : Type 0 where
+  pub pieces : List (List ℕ)
+  pub record-left : r .well ≡ true → r .cluster ≡ leaves c (together pieces)

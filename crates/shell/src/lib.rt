@@ -1,14 +1,19 @@
-// A whole program: reads step lines from standard input to its end and writes an answer line for each, thin over the proved library
-// `replay`. A program crate of one line calls `run`.
+// Whole programs, thin over the proved libraries: step lines from standard input to its end, an answer line for each, and the record loaded
+// before and saved after. A program crate of one line calls `run`, `save` or `carry`.
+mod saves;
+mod say;
+
 ghost use mathlib.Core.Path.{_≡_};
+ghost use mathlib.Core.Bool.{false};
 ghost use Prim.Native.Nat.{_≤_, _*_};
 ghost use lib.ListN.{length};
-ghost use Rattle.replay.specs.Pieces.{answerLine, runs, says, placed};
-ghost use Rattle.shell.specs.Loop.{mostPiece, Poured, Turned, Drains};
-use libc::STDERR_FILENO;
+ghost use Rattle.replay.specs.Pieces.{answerLine, runs, says, placed, ended};
+ghost use Rattle.shell.specs.Loop.{mostPiece, Poured, Turned, Drains, Answered};
+use cluster::Cluster;
 use libc::STDIN_FILENO;
 use libc::STDOUT_FILENO;
 use replay::Session;
+use saves::Led;
 
 // How many bytes are read at once, and room for their answers even where every byte is a line.
 const PIECE: usize = 16384;
@@ -28,12 +33,12 @@ pub struct Drained {
     pub end: End,
 }
 
-// Writes the first n bytes of the buffer to standard output, and says whether that went well.
-fn write_first(out: &[u8], n: usize) -> bool {
+// Writes the first n bytes of the buffer to a descriptor, and says whether that went well.
+fn write_first(fd: i32, out: &[u8], n: usize) -> bool {
     if out.len() < n {
         return false;
     }
-    io::write_all(STDOUT_FILENO, &out[..n])
+    io::write_all(fd, &out[..n])
 }
 
 // All of one piece, in one go: there is room for every answer.
@@ -44,7 +49,7 @@ fn pour(s: Session, piece: &[u8], out: &mut [u8]) -> Drained
 {
     let f = replay::feed(s, piece, out);
     let d = f.session;
-    if write_first(out, f.wrote) {
+    if write_first(STDOUT_FILENO, out, f.wrote) {
         Drained {
             session: d,
             end: End::More,
@@ -106,36 +111,80 @@ fn drain(s: Session, out: &mut [u8]) -> Drained
     }
 }
 
-fn cannot_write() {
-    io::write_all(
-        STDERR_FILENO,
-        b"replay: standard output can't be written, so the answers break off here\n",
-    );
+// The end of the input: the rest is answered.
+fn ended(s: Session, out: &mut [u8]) -> Led
+    requires { ⌜ answerLine ≤ length (now out) ⌝ }
+    ensures { λ r. ⌜ r .cluster ≡ ended s ⌝ }
+{
+    let f = replay::finish(s, out);
+    let d = f.session;
+    let c = d.cluster;
+    if write_first(STDOUT_FILENO, out, f.wrote) {
+        return Led {
+            cluster: c,
+            well: true,
+        };
+    }
+    say::cannot_write();
+    Led {
+        cluster: c,
+        well: false,
+    }
 }
 
-fn cannot_read() {
-    io::write_all(
-        STDERR_FILENO,
-        b"replay: standard input can't be read any further; the lines before are answered\n",
-    );
+// Says why the input wasn't answered to its end.
+fn broke_off(s: Session, end: End) -> Led
+    ensures { λ r. ⌜ r .well ≡ false ⌝ }
+{
+    match end {
+        End::CannotWrite => say::cannot_write(),
+        _ => say::cannot_read(),
+    }
+    let c = s.cluster;
+    Led {
+        cluster: c,
+        well: false,
+    }
+}
+
+// All of standard input, answered from the record on; the record after it.
+fn answered(c: Cluster) -> Led
+    ensures { λ r. ⌜ Answered c r ⌝ }
+{
+    let mut out = [0; ROOM];
+    let p = drain(replay::begin(c), &mut out);
+    let d = p.session;
+    let end = p.end;
+    let End::Input = end else {
+        return broke_off(d, end);
+    };
+    ended(d, &mut out)
+}
+
+// Saves the record after all lines, where all went well.
+fn saved_after(c: Cluster) {
+    let l = answered(c);
+    let d = l.cluster;
+    if l.well {
+        saves::store(d);
+    }
 }
 
 // The program, from the record before the first start. What it reads and writes no contract can say.
 pub fn run() {
-    let mut out = [0; ROOM];
-    let s = replay::begin(cluster::zero_cluster());
-    let p = drain(s, &mut out);
-    let d = p.session;
-    let end = p.end;
-    match end {
-        End::More => cannot_read(),
-        End::CannotRead => cannot_read(),
-        End::CannotWrite => cannot_write(),
-        End::Input => {
-            let f = replay::finish(d, &mut out);
-            if !write_first(&out, f.wrote) {
-                cannot_write();
-            }
-        }
+    answered(cluster::zero_cluster());
+}
+
+// The program that saves the last record.
+pub fn save() {
+    saved_after(cluster::zero_cluster());
+}
+
+// The program that begins with a saved record and saves the last one.
+pub fn carry() {
+    let l = saves::load();
+    let c = l.cluster;
+    if l.well {
+        saved_after(c);
     }
 }

@@ -1,0 +1,61 @@
+-- `shell::saves::walk_on` meets its contract. Assumes nothing.
+use borrow.Author.Needs.{needs}
+use Rattle.shell.proofs.saves.walk_on.Statement.{statement}
+use Rattle.shell.proofs.saves.walk_on.Tie as tie
+
+abbrev Inv-loop : tie.InvT-loop
+Inv-loop w₀ turns₀ w turns = Unit {0}
+
+abbrev μ-loop : tie.MeasureT-loop
+μ-loop w₀ turns₀ w turns = turns
+
+loop-holds : tie.Need-loop-holds Inv-loop μ-loop
+loop-holds c = tt
+
+slice-aggregate-read : tie.Need-slice-aggregate-read Inv-loop μ-loop
+slice-aggregate-read c = search needs
+
+read-requires : tie.Need-read-requires Inv-loop μ-loop
+read-requires c κs = search needs
+
+slice-aggregate-walk-turn : tie.Need-slice-aggregate-walk-turn Inv-loop μ-loop
+slice-aggregate-walk-turn c = search needs
+
+walk-turn-requires : tie.Need-walk-turn-requires Inv-loop μ-loop
+walk-turn-requires c κs = search needs
+
+enum-told : tie.Need-enum-told Inv-loop μ-loop
+enum-told c = search needs
+
+returns : tie.Need-returns Inv-loop μ-loop
+returns c = search needs
+
+sub-turns : tie.Need-sub-turns Inv-loop μ-loop
+sub-turns c = search needs
+
+loop-less : tie.Need-loop-less Inv-loop μ-loop
+loop-less c = search needs
+
+loop-again : tie.Need-loop-again Inv-loop μ-loop
+loop-again c = tt
+
+returns-2 : tie.Need-returns-2 Inv-loop μ-loop
+returns-2 c = search needs
+
+pub walk-on-spec : {M : Type 1} → statement M
+walk-on-spec =
+    tie.close
+    (tie.spec
+    Inv-loop
+    μ-loop
+    loop-holds
+    slice-aggregate-read
+    read-requires
+    slice-aggregate-walk-turn
+    walk-turn-requires
+    enum-told
+    returns
+    sub-turns
+    loop-less
+    loop-again
+    returns-2)

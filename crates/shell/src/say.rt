@@ -1,0 +1,100 @@
+// What is said on standard error, in sentences: what went wrong, where, and what became of it.
+use libc::STDERR_FILENO;
+use saved::Sort;
+use shapes::Due;
+use shapes::Shape;
+
+fn say(words: &[u8]) {
+    io::write_all(STDERR_FILENO, words);
+}
+
+pub(crate) fn cannot_write() {
+    say(b"replay: standard output can't be written, so the answers break off here\n");
+}
+
+pub(crate) fn cannot_read() {
+    say(b"replay: standard input can't be read any further; the lines before are answered\n");
+}
+
+pub(crate) fn cannot_save() {
+    say(b"replay: the record can't be written where it is to be saved; is there room?\n");
+}
+
+// A record that is not well formed, which after lines is only the one before the first start.
+pub(crate) fn nothing_to_save() {
+    say(b"replay: there is nothing to save (refusal 2): no start line has begun a cluster\n");
+}
+
+pub(crate) fn cannot_load() {
+    say(b"replay: the saved record can't be read to its end, so nothing is loaded\n");
+}
+
+// How every sentence on a refused load begins.
+fn nothing_loaded(number: u8) {
+    say(b"replay: nothing is loaded, and no line is answered (refusal ");
+    io::print_decimal(STDERR_FILENO, number as u64);
+    say(b"): ");
+}
+
+// The frame that is due, as a person finds it in the file.
+fn frame(s: Sort) {
+    match s {
+        Sort::First => say(
+            b"a first frame of edition 1: 6 characters 0-9 a-f that begin with 0001",
+        ),
+        Sort::Server => say(b"a server: 34 characters 0-9 a-f that begin with 01"),
+        Sort::Entry => say(b"an entry: 20 characters 0-9 a-f that begin with 02"),
+        Sort::Note => say(b"a note: 16 characters 0-9 a-f that begin with 03"),
+        Sort::Report => say(b"a report: 16 characters 0-9 a-f that begin with 04"),
+    }
+}
+
+// What should stand in the line where the shape is broken, or where the text ends.
+fn due(d: Due, broken: bool) {
+    let Due::Frame(s) = d else {
+        say(b" is left over: all that the lines before it announce is there\n");
+        return;
+    };
+    if broken {
+        say(b" should be ");
+    } else {
+        say(b" is missing or not ended; it should be ");
+    }
+    frame(s);
+    say(b", and then a line feed\n");
+}
+
+// Refusal 1: the line and what was due there.
+pub(crate) fn misshapen(s: Shape) {
+    nothing_loaded(1);
+    say(b"line ");
+    io::print_decimal(STDERR_FILENO, s.number as u64);
+    let broken = s.broken;
+    due(shapes::expected(s), broken);
+}
+
+// Refusal 2 for a text that is longer than any saved form.
+pub(crate) fn too_long() {
+    nothing_loaded(2);
+    say(b"it is longer than the saved form of any record\n");
+}
+
+// Refusal 2 where the count or a server is none of a well-formed record, or where saving would write another text.
+pub(crate) fn ill_formed(count: usize, server: usize) {
+    nothing_loaded(2);
+    if count < cluster::FEWEST_SERVERS || cluster::MOST_SERVERS < count {
+        say(b"the server count is ");
+        io::print_decimal(STDERR_FILENO, count as u64);
+        say(b", and not 2 to 7\n");
+        return;
+    }
+    if server < cluster::MOST_SERVERS {
+        say(b"server ");
+        io::print_decimal(STDERR_FILENO, server as u64);
+        say(b" is none of a well-formed record; docs/SAVED.md tells what may stand there\n");
+        return;
+    }
+    say(
+        b"no record is saved so: a role is neither 00 nor 01, or notes are zero, twice or out of order\n",
+    );
+}
