@@ -1,0 +1,141 @@
+// Saved texts, loaded and saved again: standard input has the cases. A line that begins with # is only written; one that begins with =
+// names a case, and its saved text is all that follows up to the next such line, without its last line feed where it begins with =-.
+// Each is written with its answer line, and a record that was loaded with whether it saves to that very text. `stdout` has what
+// docs/SAVED.md gives, worked out by hand.
+use cluster::Cluster;
+use libc::STDIN_FILENO;
+use libc::STDOUT_FILENO;
+use saved::Saved;
+use steps::Answer;
+
+// A line, so that each answer stands by itself.
+fn say(words: &[u8]) {
+    io::write_all(STDOUT_FILENO, words);
+    io::write_all(STDOUT_FILENO, b"\n");
+}
+
+// Whether the first n bytes written are the text; never where there are fewer.
+fn wrote_same(out: &[u8], n: usize, text: &[u8]) -> bool {
+    if out.len() < n {
+        return false;
+    }
+    loads::same_text(&out[..n], text)
+}
+
+// The record is saved again, because loading must give back the one record that has this text.
+fn saved_again(c: Cluster, text: &[u8]) {
+    let mut out = [0; saved::LONGEST];
+    let s = saved::save(c, &mut out);
+    let Saved::Text(n) = s else {
+        say(b"other");
+        return;
+    };
+    if wrote_same(&out, n, text) {
+        say(b"same");
+    } else {
+        say(b"other");
+    }
+}
+
+// A refused text has no record to save.
+fn tried(text: &[u8]) {
+    let o = loads::load(cluster::zero_cluster(), text);
+    let c = o.cluster;
+    let a = o.answer;
+    let chars = answers::write_answer(a);
+    say(&chars);
+    let Answer::Done = a else {
+        return;
+    };
+    saved_again(c, text);
+}
+
+// Where the first line ends, as a case's name ends there.
+fn first_feed(part: &[u8]) -> usize {
+    let mut i: usize = 0;
+    while i < part.len() {
+        if part[i] == b'\n' {
+            return i;
+        }
+        i += 1;
+    }
+    i
+}
+
+// Where a case's text ends that begins at `past`: one without its last line feed can't stand before another line, so its name asks for it.
+fn text_end(part: &[u8], past: usize) -> usize {
+    let end = part.len();
+    if end <= past {
+        return end;
+    }
+    if end < 2 {
+        return end;
+    }
+    if part[1] == b'-' && part[end - 1] == b'\n' {
+        return end - 1;
+    }
+    end
+}
+
+// A case's text begins after its name; it may be empty, as a saved file may.
+fn tried_after(part: &[u8], past: usize) {
+    let end = text_end(part, past);
+    if end < past {
+        return;
+    }
+    if part.len() < end {
+        return;
+    }
+    tried(&part[past..end]);
+}
+
+// A line that begins with # or =, and all up to the next one. That line is written first, so that the answer stands under the name.
+fn taken(part: &[u8]) {
+    let n = first_feed(part);
+    if part.len() <= n {
+        return;
+    }
+    say(&part[..n]);
+    if part[0] == b'=' {
+        tried_after(part, n + 1);
+    }
+}
+
+// Whether a line begins at place i that ends the text before it: no frame begins with these.
+fn begins(text: &[u8], i: usize) -> bool {
+    if text.len() <= i {
+        return false;
+    }
+    if text[i] != b'=' && text[i] != b'#' {
+        return false;
+    }
+    if i == 0 {
+        return true;
+    }
+    text[i - 1] == b'\n'
+}
+
+// The cases one after another; each is whole where the next begins.
+fn take_cases(text: &[u8]) {
+    let mut start: usize = 0;
+    let mut i: usize = 0;
+    while i < text.len() {
+        if begins(text, i) {
+            taken(&text[start..i]);
+            start = i;
+        }
+        i += 1;
+    }
+    taken(&text[start..i]);
+}
+
+// A text that fills the buffer may have been cut, and is refused.
+fn main() {
+    let mut text = io::large_buffer();
+    let n = io::read_full(STDIN_FILENO, &mut text);
+    if text.len() <= n {
+        say(b"? too long");
+        return;
+    }
+    take_cases(&text[..n]);
+}
