@@ -57,7 +57,7 @@ pub fn read_line(line: &[u8]) -> Result<Step, Condition> {
     read_frame(&frame)
 }
 
-fn digit(character: u8) -> Result<u8, Condition> {
+pub fn digit(character: u8) -> Result<u8, Condition> {
     match character {
         b'0'..=b'9' => Ok(character - b'0'),
         b'a'..=b'f' => Ok(character - b'a' + 10),

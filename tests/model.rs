@@ -368,7 +368,7 @@ impl Cluster {
         cluster
     }
 
-    fn well_formed(&self) -> bool {
+    pub fn well_formed(&self) -> bool {
         let counted = || self.counted().iter().enumerate();
         (2..=SERVERS).contains(&self.count)
             && counted().all(|(number, server)| server.well_formed(number, self.count))

@@ -1,8 +1,9 @@
 //! Record-level tests of the model: document 01's twelve facts, and the cases that no lines reach
 //! from a fresh start. Those of kinds 14 and 15 are in `newest_tests.rs`, those of reports in
-//! `reports_tests.rs`.
+//! `reports_tests.rs`, those of the saved form in `saved_tests.rs`.
 
 use super::*;
+use crate::saved::{Refusal, save};
 
 /// Same term and position mean equal entries, as in document 01's list of facts.
 fn entry(term: u16, position: usize) -> Entry {
@@ -363,13 +364,15 @@ fn each_broken_clause_is_refusal_2() {
     is_refused_where_broken(&whole, BROKEN);
 }
 
-/// Every step that looks at the record refuses each of these with 2 and leaves it.
+/// Every step that looks at the record refuses each of these with 2 and leaves it; none has a saved
+/// form.
 fn is_refused_where_broken(whole: &Cluster, broken: &[fn(&mut Cluster)]) {
     let whole = *whole;
     assert!(whole.well_formed());
     for (number, breaks) in broken.iter().enumerate() {
         let mut broken = whole;
         breaks(&mut broken);
+        assert_eq!(save(&broken), Err(Refusal::Value), "broken clause {number}");
         for taken in &LOOKING {
             let mut after = broken;
             let answer = step(&mut after, taken).map_err(Condition::number);
@@ -409,3 +412,5 @@ fn every_step_from_an_odd_record_keeps_it_well_formed() {
 mod newest;
 #[path = "reports_tests.rs"]
 mod reported;
+#[path = "saved_tests.rs"]
+mod saved;

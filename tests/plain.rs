@@ -1,13 +1,17 @@
-//! The plain program: step lines in, answer lines out, one for each. `plain --help` tells the use.
+//! The plain program: step lines in, answer lines out, one for each. `plain --help` tells the use;
+//! sessions that are answered in its tests are in `plain_tests.rs`.
 
 mod lines;
 mod model;
+mod saved;
 mod sights;
 mod tally;
 
 use lines::{LINE, put_numbers, read_line, write_bytes};
 use model::kinds::step_where;
 use model::{Answer, Cluster, Numbers, Step, step};
+use saved::{Refusal, load, save};
+use std::fs;
 use std::io::{self, BufRead, BufReader, BufWriter, ErrorKind, Write};
 use std::process::ExitCode;
 use tally::Tally;
@@ -16,12 +20,17 @@ const HELP: &str = "\
 A model of one small replica set, run over step lines.
 
 plain < steps            writes one answer line for each step line
-plain --trust < steps    writes the same lines, and looks at its record before a step only to see
-                         whether there was a start: it has made that record itself
+    --load FILE          before that, begins with the record that is saved there
+    --save FILE          after that, saves its record there
+    --trust              looks at its record before a step only to see whether there was a start:
+                         it has made or loaded that record itself
 plain --tally < steps    writes instead how often each kind was done and how often each condition
                          of its refusals was the one that refused; exits 1 and names them where
                          something that lines can reach never occurred
 plain --help             writes this
+
+A record that can't be loaded or saved is refused: the refusal's number is written to standard error
+and the exit status is 1. Where a load is refused nothing is answered; nothing is saved either way.
 ";
 
 /// One block of input or output.
@@ -34,11 +43,12 @@ const ANSWER_LINE: usize = 2 * ANSWER_FRAME + 1;
 fn main() -> ExitCode {
     let arguments: Vec<String> = std::env::args().skip(1).collect();
     let done = match arguments.iter().map(String::as_str).collect::<Vec<_>>()[..] {
-        [] => write_answers(step).map(|()| ExitCode::SUCCESS),
-        ["--trust"] => write_answers(trusting_step).map(|()| ExitCode::SUCCESS),
         ["--tally"] => write_tally(),
         ["--help"] => io::stdout().write_all(HELP.as_bytes()).map(|()| ExitCode::SUCCESS),
-        _ => io::stderr().write_all(HELP.as_bytes()).map(|()| ExitCode::from(2)),
+        ref others => match Options::read(others) {
+            Some(options) => write_run(&options),
+            None => io::stderr().write_all(HELP.as_bytes()).map(|()| ExitCode::from(2)),
+        },
     };
     done.unwrap_or_else(|error| {
         eprintln!("plain: {error}");
@@ -46,15 +56,81 @@ fn main() -> ExitCode {
     })
 }
 
-fn write_answers(take: impl Fn(&mut Cluster, &Step) -> Answer) -> io::Result<()> {
-    let mut output = BufWriter::with_capacity(BLOCK, io::stdout().lock());
-    answer_lines(take, standard_input(), &mut output)?;
-    output.flush()
+/// What is asked of a run besides its answers.
+#[derive(PartialEq, Default, Debug)]
+struct Options<'a> {
+    load: Option<&'a str>,
+    save: Option<&'a str>,
+    trust: bool,
 }
 
-/// For a record that began as the zero record and that only steps have changed. The zero record has
-/// no servers; only a start sets their count, to 2 at least, and makes a well-formed record, which
-/// every step keeps well formed. So the count alone tells what the whole check would find.
+impl<'a> Options<'a> {
+    /// Each at most once, in any order.
+    fn read(mut arguments: &[&'a str]) -> Option<Options<'a>> {
+        let mut options = Options::default();
+        while let [option, rest @ ..] = arguments {
+            arguments = match (*option, rest) {
+                ("--load", [file, rest @ ..]) if options.load.is_none() => {
+                    options.load = Some(file);
+                    rest
+                }
+                ("--save", [file, rest @ ..]) if options.save.is_none() => {
+                    options.save = Some(file);
+                    rest
+                }
+                ("--trust", rest) if !options.trust => {
+                    options.trust = true;
+                    rest
+                }
+                _ => return None,
+            };
+        }
+        Some(options)
+    }
+}
+
+fn write_run(options: &Options) -> io::Result<ExitCode> {
+    let mut output = BufWriter::with_capacity(BLOCK, io::stdout().lock());
+    Ok(match run(options, standard_input(), &mut output)? {
+        Ok(()) => ExitCode::SUCCESS,
+        Err(refusal) => {
+            eprintln!("{}", refusal.number());
+            ExitCode::FAILURE
+        }
+    })
+}
+
+/// From the record that is loaded to the record that is saved; either may be refused.
+fn run(
+    options: &Options,
+    input: impl BufRead,
+    output: &mut impl Write,
+) -> io::Result<Result<(), Refusal>> {
+    let begun = match options.load {
+        Some(file) => load(&fs::read(file)?),
+        None => Ok(Cluster::ZERO),
+    };
+    let mut cluster = match begun {
+        Ok(cluster) => cluster,
+        Err(refusal) => return Ok(Err(refusal)),
+    };
+    if options.trust {
+        answer_lines(&mut cluster, trusting_step, input, output)?;
+    } else {
+        answer_lines(&mut cluster, step, input, output)?;
+    }
+    output.flush()?;
+    match options.save.map(|file| (file, save(&cluster))) {
+        Some((file, Ok(text))) => fs::write(file, text).map(Ok),
+        Some((_, Err(refusal))) => Ok(Err(refusal)),
+        None => Ok(Ok(())),
+    }
+}
+
+/// For a record that began as the zero record or was loaded and that only steps have changed. The
+/// zero record has no servers; only a start sets their count, to 2 at least, and makes a well-formed
+/// record, as a loaded one is, which every step keeps well formed. So the count alone tells what the
+/// whole check would find.
 fn trusting_step(cluster: &mut Cluster, step: &Step) -> Answer {
     step_where(|cluster| cluster.count > 0, cluster, step)
 }
@@ -77,13 +153,13 @@ fn standard_input() -> impl BufRead {
 }
 
 fn answer_lines(
+    cluster: &mut Cluster,
     take: impl Fn(&mut Cluster, &Step) -> Answer,
     input: impl BufRead,
     output: &mut impl Write,
 ) -> io::Result<()> {
-    let mut cluster = Cluster::ZERO;
     each_line(input, |line| {
-        let answer = read_line(line).and_then(|read| take(&mut cluster, &read));
+        let answer = read_line(line).and_then(|read| take(cluster, &read));
         output.write_all(&answer_line(answer))
     })
 }
@@ -149,170 +225,5 @@ fn each_line(
 }
 
 #[cfg(test)]
-mod tests {
-    use super::*;
-
-    /// Blocks of every small size, so that lines are cut anywhere; and with the record trusted.
-    fn answers(steps: &[u8]) -> String {
-        let in_blocks = |take: fn(&mut Cluster, &Step) -> Answer, size: usize| {
-            let mut output = Vec::new();
-            answer_lines(take, BufReader::with_capacity(size, steps), &mut output).unwrap();
-            String::from_utf8(output).unwrap()
-        };
-        let whole = in_blocks(step, BLOCK);
-        assert!((1..40).all(|size| in_blocks(step, size) == whole));
-        assert_eq!(in_blocks(trusting_step, BLOCK), whole);
-        whole
-    }
-
-    /// Steps left, answers right.
-    fn is_answered<S: AsRef<str>>(session: &[(S, S)]) {
-        let steps: Vec<&str> = session.iter().map(|pair| pair.0.as_ref()).collect();
-        let printed: String = session.iter().map(|pair| format!("{}\n", pair.1.as_ref())).collect();
-        assert_eq!(answers(steps.join("\n").as_bytes()), printed);
-    }
-
-    #[test]
-    fn the_printed_session() {
-        let session = [
-            ("00030000000000000000000000", "000000000000000000"),
-            ("01000003000000000000000000", "000000000100000000"),
-            ("06000000050029000000000000", "000001000100010000"),
-            ("04010000000000000000000000", "000001000000000000"),
-            ("10000000000000000000000000", "000000000000000000"),
-            ("07000000000000000000000000", "000001000000000000"),
-            ("0c000000000001000100000000", "000001000100010000"),
-            ("0b010000050000000000010000", "080000000000000000"),
-            ("03010000000000000000000000", "000000000000000000"),
-            ("0b010000050000000000010000", "000029000000010000"),
-        ];
-        is_answered(&session);
-    }
-
-    /// A write is covered under one primary, another wins and asks for the newest value; the one
-    /// that it has overtaken asks too and is never answered about what it appends now.
-    #[test]
-    fn a_session_of_newest_reads() {
-        is_answered(&[
-            ("00030000000000000000000000", "000000000000000000"),
-            ("01000003000000000000000000", "000000000100000000"),
-            ("06000000050029000000000000", "000001000100010000"),
-            ("04010000000000000000000000", "000001000000000000"),
-            ("10000000000000000000000000", "000000000000000000"),
-            ("07000000000000000000000000", "000001000000000000"),
-            ("01010006000000000000000000", "000000000200000000"),
-            ("0e010000000000000000000000", "000002000200010001"),
-            ("0f010000050002000200000000", "080000000000000000"),
-            ("0e000000000000000000000000", "000002000100010001"),
-            ("07000000000000000000000000", "050000000000000000"),
-            ("0f000000050002000100000000", "080000000000000000"),
-            ("04020100000000000000000000", "000002000000000000"),
-            ("10010000000000000000000000", "000000000000000000"),
-            ("07010000000000000000000000", "000002000000000000"),
-            ("0f010000050002000200000000", "000029000000010001"),
-            ("0f010000060002000200000000", "000000000000010001"),
-            ("0c010000000002000200000000", "000002000200010001"),
-            ("0f000000050001000100000000", "000029000000010000"),
-            ("0f020000050002000200000000", "040000000000000000"),
-            ("0f010000050001000200000000", "0a0000000000000000"),
-            ("0f010000ff0002000200000000", "030000000000000000"),
-            ("0e010000ff0000000000000000", "010000000000000000"),
-        ]);
-    }
-
-    /// A primary commits by a note of a server that has been led on into a later term since; what it
-    /// covered is there under the next primary, and it comes after that one in the end.
-    #[test]
-    fn a_session_of_a_stale_note() {
-        is_answered(&[
-            ("00030000000000000000000000", "000000000000000000"),
-            ("01000003000000000000000000", "000000000100000000"),
-            ("06000000050029000000000000", "000001000100010000"),
-            ("04010000000000000000000000", "000001000000000000"),
-            ("07000000000000000000000000", "050000000000000000"),
-            ("01010006000000000000000000", "000000000200000000"),
-            ("10000000000000000000000000", "000000000000000000"),
-            ("07000000000000000000000000", "000001000000000000"),
-            ("0b000000050000000000010000", "000029000000010000"),
-            ("07010000000000000000000000", "050000000000000000"),
-            ("0601000005002a000000000000", "000002000200010001"),
-            ("04020100000000000000000000", "000002000000000000"),
-            ("10010000000000000000000000", "000000000000000000"),
-            ("07010000000000000000000000", "000002000000000000"),
-            ("03000100000000000000000000", "000000000000000000"),
-            ("04000100000000000000000000", "000002000000000000"),
-            ("0b000000050000000000010001", "00002a000000010001"),
-            ("10000000000000000000000000", "050000000000000000"),
-            ("10010000000000000000000000", "000000000000000000"),
-            ("10010000000000000000000000", "050000000000000000"),
-            ("10030000000000000000000000", "030000000000000000"),
-            ("10000100000000000000000000", "010000000000000000"),
-        ]);
-    }
-
-    /// A longer log of an older term is copied in the primary's term, and the report of that comes
-    /// round to the primary. Its entry at that position is on no other server, and doesn't pass.
-    #[test]
-    fn a_session_of_a_misleading_note() {
-        is_answered(&[
-            ("00030000000000000000000000", "000000000000000000"),
-            ("01000003000000000000000000", "000000000100000000"),
-            ("06000000050029000000000000", "000001000100010000"),
-            ("04010000000000000000000000", "000001000000000000"),
-            ("01010006000000000000000000", "000000000200000000"),
-            ("0601000005002a000000000000", "000002000200010001"),
-            ("0601000005002b000000000000", "000003000200010002"),
-            ("03000100000000000000000000", "000000000000000000"),
-            ("01000005000000000000000000", "000000000300000000"),
-            ("0600000005002c000000000000", "000002000300010003"),
-            ("04020100000000000000000000", "000003000000000000"),
-            ("02010000000000000000000000", "000000000000000000"),
-            ("10010000000000000000000000", "000000000000000000"),
-            ("10010000000000000000000000", "050000000000000000"),
-            ("10000000000000000000000000", "000000000000000000"),
-            ("10000000000000000000000000", "050000000000000000"),
-            ("07000000000000000000000000", "050000000000000000"),
-            ("05020000000000000000000000", "000002000000000000"),
-            ("10000000000000000000000000", "000000000000000000"),
-            ("07000000000000000000000000", "000002000000000000"),
-        ]);
-    }
-
-    /// The ninth report finds a full queue, so the ninth entry passes only with the tenth report.
-    #[test]
-    fn a_session_of_nine_reports() {
-        let line = |step: &str, answer: String| (format!("{step:0<26}"), format!("{answer:0<18}"));
-        let write = |n: u8| {
-            let stamp = format!("0000{n:02x}0001000100{:02x}", n - 1);
-            line("06000000050029", stamp)
-        };
-        let pull = |n: u8| line("0401", format!("0000{n:02x}"));
-        let advance = |n: u8| line("07", format!("0000{n:02x}"));
-        let done = |step: &str| line(step, String::new());
-        let refused = |step: &str| line(step, "05".to_string());
-        let mut session = vec![done("0002"), line("01000003", "0000000001".to_string())];
-        session.extend((1..=9).flat_map(|n| [write(n), pull(n)]));
-        session.extend((1..=8).map(|_| done("10")));
-        session.extend([refused("10"), advance(8), refused("07")]);
-        session.extend([write(10), pull(10), done("10"), advance(10)]);
-        is_answered(&session);
-    }
-
-    #[test]
-    fn lines_are_counted_as_the_rulings_say() {
-        let bad = "010000000000000000\n";
-        assert_eq!(answers(b""), "");
-        assert_eq!(answers(b"\n"), bad);
-        assert_eq!(answers(b"x"), bad);
-        assert_eq!(answers(b"\n\n"), bad.repeat(2));
-        assert_eq!(answers(b"00030000000000000000000000\r\n"), bad);
-        assert_eq!(answers(&[b'0'; 1000]), bad);
-    }
-
-    #[test]
-    fn before_the_first_start() {
-        let steps = b"0d000000000000000000000000\n00080000000000000000000000\n0d\n";
-        let printed = "020000000000000000\n030000000000000000\n010000000000000000\n";
-        assert_eq!(answers(steps), printed);
-    }
-}
+#[path = "plain_tests.rs"]
+mod tests;

@@ -9,12 +9,12 @@ const ADVANCES: Step = Step::Advances { a: 0 };
 const PULLS: Step = Step::Pulls { a: 0, b: 1 };
 const ROLLS_BACK: Step = Step::RollsBack { a: 0, b: 1 };
 
-fn report(who: usize, note: Note) -> Report {
+pub(super) fn report(who: usize, note: Note) -> Report {
     Report { who, note }
 }
 
 /// The server with these reports in its queue.
-fn told(server: Server, reports: &[Report]) -> Server {
+pub(super) fn told(server: Server, reports: &[Report]) -> Server {
     let mut queue = Queue { length: reports.len(), ..Queue::EMPTY };
     queue.reports[..reports.len()].copy_from_slice(reports);
     Server { queue, ..server }
@@ -26,7 +26,7 @@ fn many(count: usize) -> Vec<Report> {
 }
 
 /// Three servers, each with notes, reports and a source: the first two come after each other.
-fn busy() -> [Server; 3] {
+pub(super) fn busy() -> [Server; 3] {
     let notes = [(0, note(9, 1, 32)), (1, note(2, 2, 2)), (2, note(3, 3, 1))];
     let reports = [report(1, note(2, 1, 7)), report(0, note(9, 9, 9)), report(2, note(1, 1, 1))];
     let noted = |server: Server| noting(told(server, &reports), &notes);

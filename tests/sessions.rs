@@ -1,17 +1,20 @@
 //! A seeded generator of test sessions. It runs the model along with the lines it writes, so that
-//! most of its steps are allowed. `sessions --help` tells the use.
+//! most of its steps are allowed. `sessions --help` tells the use; tests are in `sessions_tests.rs`.
 
 mod draws;
 mod frames;
 mod junk;
 mod lines;
 mod model;
+mod prng;
 mod relays;
+#[cfg(test)]
+mod saved;
 
 use frames::{frame_of, line_of};
-use junk::Prng;
 use lines::read_line;
 use model::{CONDITIONS, Cluster, Condition, ENTRIES, KINDS, Server, Step, step};
+use prng::Prng;
 use std::io::{self, Write};
 use std::process::ExitCode;
 
@@ -382,18 +385,5 @@ impl Run {
 }
 
 #[cfg(test)]
-mod tests {
-    use super::*;
-
-    #[test]
-    fn every_drawn_step_is_read_back() {
-        let mut run = Run::new(1);
-        run.begin();
-        for kind in (0..KINDS).cycle().take(20_000) {
-            let drawn = run.draw(kind);
-            assert_eq!(usize::from(drawn.kind()), kind);
-            assert_eq!(read_line(&line_of(&drawn)), Ok(drawn));
-            run.say(drawn);
-        }
-    }
-}
+#[path = "sessions_tests.rs"]
+mod tests;

@@ -1,0 +1,232 @@
+//! Whole sessions and their answers, with the lines cut anywhere and the record saved and loaded
+//! between any two.
+
+use super::*;
+
+type Take = fn(&mut Cluster, &Step) -> Answer;
+
+/// The answers from a record on and the record after them, with input in blocks of a size.
+fn answers_from(mut cluster: Cluster, take: Take, size: usize, steps: &[u8]) -> (String, Cluster) {
+    let mut output = Vec::new();
+    let input = BufReader::with_capacity(size, steps);
+    answer_lines(&mut cluster, take, input, &mut output).unwrap();
+    (String::from_utf8(output).unwrap(), cluster)
+}
+
+/// The same with the record saved and loaded after each line, once there was a start.
+fn answers_in_evenings(take: Take, steps: &[u8]) -> (String, Cluster) {
+    let (mut answers, mut cluster) = (String::new(), Cluster::ZERO);
+    for line in steps.split_inclusive(|&character| character == b'\n') {
+        let (answer, left) = answers_from(cluster, take, BLOCK, line);
+        answers += &answer;
+        let saved = save(&left);
+        assert_eq!(saved.is_ok(), left.count > 0);
+        cluster = saved.map_or(Cluster::ZERO, |text| load(&text).unwrap());
+    }
+    (answers, cluster)
+}
+
+/// Blocks of every small size, so that lines are cut anywhere; with the record trusted; and saved.
+fn answers(steps: &[u8]) -> String {
+    let whole = answers_from(Cluster::ZERO, step, BLOCK, steps);
+    assert!((1..40).all(|size| answers_from(Cluster::ZERO, step, size, steps) == whole));
+    assert_eq!(answers_from(Cluster::ZERO, trusting_step, BLOCK, steps), whole);
+    assert_eq!(answers_in_evenings(step, steps), whole);
+    assert_eq!(answers_in_evenings(trusting_step, steps), whole);
+    whole.0
+}
+
+/// Steps left, answers right.
+fn is_answered<S: AsRef<str>>(session: &[(S, S)]) {
+    let steps: Vec<&str> = session.iter().map(|pair| pair.0.as_ref()).collect();
+    let printed: String = session.iter().map(|pair| format!("{}\n", pair.1.as_ref())).collect();
+    assert_eq!(answers(steps.join("\n").as_bytes()), printed);
+}
+
+#[test]
+fn the_printed_session() {
+    let session = [
+        ("00030000000000000000000000", "000000000000000000"),
+        ("01000003000000000000000000", "000000000100000000"),
+        ("06000000050029000000000000", "000001000100010000"),
+        ("04010000000000000000000000", "000001000000000000"),
+        ("10000000000000000000000000", "000000000000000000"),
+        ("07000000000000000000000000", "000001000000000000"),
+        ("0c000000000001000100000000", "000001000100010000"),
+        ("0b010000050000000000010000", "080000000000000000"),
+        ("03010000000000000000000000", "000000000000000000"),
+        ("0b010000050000000000010000", "000029000000010000"),
+    ];
+    is_answered(&session);
+}
+
+/// A write is covered under one primary, another wins and asks for the newest value; the one
+/// that it has overtaken asks too and is never answered about what it appends now.
+#[test]
+fn a_session_of_newest_reads() {
+    is_answered(&[
+        ("00030000000000000000000000", "000000000000000000"),
+        ("01000003000000000000000000", "000000000100000000"),
+        ("06000000050029000000000000", "000001000100010000"),
+        ("04010000000000000000000000", "000001000000000000"),
+        ("10000000000000000000000000", "000000000000000000"),
+        ("07000000000000000000000000", "000001000000000000"),
+        ("01010006000000000000000000", "000000000200000000"),
+        ("0e010000000000000000000000", "000002000200010001"),
+        ("0f010000050002000200000000", "080000000000000000"),
+        ("0e000000000000000000000000", "000002000100010001"),
+        ("07000000000000000000000000", "050000000000000000"),
+        ("0f000000050002000100000000", "080000000000000000"),
+        ("04020100000000000000000000", "000002000000000000"),
+        ("10010000000000000000000000", "000000000000000000"),
+        ("07010000000000000000000000", "000002000000000000"),
+        ("0f010000050002000200000000", "000029000000010001"),
+        ("0f010000060002000200000000", "000000000000010001"),
+        ("0c010000000002000200000000", "000002000200010001"),
+        ("0f000000050001000100000000", "000029000000010000"),
+        ("0f020000050002000200000000", "040000000000000000"),
+        ("0f010000050001000200000000", "0a0000000000000000"),
+        ("0f010000ff0002000200000000", "030000000000000000"),
+        ("0e010000ff0000000000000000", "010000000000000000"),
+    ]);
+}
+
+/// A primary commits by a note of a server that has been led on into a later term since; what it
+/// covered is there under the next primary, and it comes after that one in the end.
+#[test]
+fn a_session_of_a_stale_note() {
+    is_answered(&[
+        ("00030000000000000000000000", "000000000000000000"),
+        ("01000003000000000000000000", "000000000100000000"),
+        ("06000000050029000000000000", "000001000100010000"),
+        ("04010000000000000000000000", "000001000000000000"),
+        ("07000000000000000000000000", "050000000000000000"),
+        ("01010006000000000000000000", "000000000200000000"),
+        ("10000000000000000000000000", "000000000000000000"),
+        ("07000000000000000000000000", "000001000000000000"),
+        ("0b000000050000000000010000", "000029000000010000"),
+        ("07010000000000000000000000", "050000000000000000"),
+        ("0601000005002a000000000000", "000002000200010001"),
+        ("04020100000000000000000000", "000002000000000000"),
+        ("10010000000000000000000000", "000000000000000000"),
+        ("07010000000000000000000000", "000002000000000000"),
+        ("03000100000000000000000000", "000000000000000000"),
+        ("04000100000000000000000000", "000002000000000000"),
+        ("0b000000050000000000010001", "00002a000000010001"),
+        ("10000000000000000000000000", "050000000000000000"),
+        ("10010000000000000000000000", "000000000000000000"),
+        ("10010000000000000000000000", "050000000000000000"),
+        ("10030000000000000000000000", "030000000000000000"),
+        ("10000100000000000000000000", "010000000000000000"),
+    ]);
+}
+
+/// A longer log of an older term is copied in the primary's term, and the report of that comes
+/// round to the primary. Its entry at that position is on no other server, and doesn't pass.
+#[test]
+fn a_session_of_a_misleading_note() {
+    is_answered(&[
+        ("00030000000000000000000000", "000000000000000000"),
+        ("01000003000000000000000000", "000000000100000000"),
+        ("06000000050029000000000000", "000001000100010000"),
+        ("04010000000000000000000000", "000001000000000000"),
+        ("01010006000000000000000000", "000000000200000000"),
+        ("0601000005002a000000000000", "000002000200010001"),
+        ("0601000005002b000000000000", "000003000200010002"),
+        ("03000100000000000000000000", "000000000000000000"),
+        ("01000005000000000000000000", "000000000300000000"),
+        ("0600000005002c000000000000", "000002000300010003"),
+        ("04020100000000000000000000", "000003000000000000"),
+        ("02010000000000000000000000", "000000000000000000"),
+        ("10010000000000000000000000", "000000000000000000"),
+        ("10010000000000000000000000", "050000000000000000"),
+        ("10000000000000000000000000", "000000000000000000"),
+        ("10000000000000000000000000", "050000000000000000"),
+        ("07000000000000000000000000", "050000000000000000"),
+        ("05020000000000000000000000", "000002000000000000"),
+        ("10000000000000000000000000", "000000000000000000"),
+        ("07000000000000000000000000", "000002000000000000"),
+    ]);
+}
+
+/// The ninth report finds a full queue, so the ninth entry passes only with the tenth report.
+#[test]
+fn a_session_of_nine_reports() {
+    let line = |step: &str, answer: String| (format!("{step:0<26}"), format!("{answer:0<18}"));
+    let write = |n: u8| {
+        let stamp = format!("0000{n:02x}0001000100{:02x}", n - 1);
+        line("06000000050029", stamp)
+    };
+    let pull = |n: u8| line("0401", format!("0000{n:02x}"));
+    let advance = |n: u8| line("07", format!("0000{n:02x}"));
+    let done = |step: &str| line(step, String::new());
+    let refused = |step: &str| line(step, "05".to_string());
+    let mut session = vec![done("0002"), line("01000003", "0000000001".to_string())];
+    session.extend((1..=9).flat_map(|n| [write(n), pull(n)]));
+    session.extend((1..=8).map(|_| done("10")));
+    session.extend([refused("10"), advance(8), refused("07")]);
+    session.extend([write(10), pull(10), done("10"), advance(10)]);
+    is_answered(&session);
+}
+
+#[test]
+fn lines_are_counted_as_the_rulings_say() {
+    let bad = "010000000000000000\n";
+    assert_eq!(answers(b""), "");
+    assert_eq!(answers(b"\n"), bad);
+    assert_eq!(answers(b"x"), bad);
+    assert_eq!(answers(b"\n\n"), bad.repeat(2));
+    assert_eq!(answers(b"00030000000000000000000000\r\n"), bad);
+    assert_eq!(answers(&[b'0'; 1000]), bad);
+}
+
+#[test]
+fn before_the_first_start() {
+    let steps = b"0d000000000000000000000000\n00080000000000000000000000\n0d\n";
+    let printed = "020000000000000000\n030000000000000000\n010000000000000000\n";
+    assert_eq!(answers(steps), printed);
+}
+
+#[test]
+fn options_come_in_any_order_and_once() {
+    let read = |line: &'static str| Options::read(&line.split_whitespace().collect::<Vec<_>>());
+    let asked = |load, save, trust| Some(Options { load, save, trust });
+    assert_eq!(read(""), asked(None, None, false));
+    assert_eq!(read("--trust"), asked(None, None, true));
+    assert_eq!(read("--load a --save b"), asked(Some("a"), Some("b"), false));
+    assert_eq!(read("--save a --trust --load a"), asked(Some("a"), Some("a"), true));
+    assert_eq!(read("--load --save"), asked(Some("--save"), None, false));
+    let wrong = ["--load", "--save", "--load a --load a", "--save a b", "--trust --trust", "a"];
+    assert!(wrong.iter().all(|line| read(line).is_none()));
+}
+
+#[test]
+fn a_record_is_loaded_first_and_saved_last_or_refused() {
+    const START: &str = "00020000000000000000000000\n";
+    const TICK: &str = "08010000000000000000000000\n";
+    const DONE: &str = "000000000000000000\n";
+    let server = |wall_clock| format!("0100000000000000000000{wall_clock:04x}00000000\n");
+    let record = |wall_clock| format!("000102\n{}{}", server(1), server(wall_clock));
+    let file = std::env::temp_dir().join(format!("plain-tests-{}", std::process::id()));
+    let file = file.to_str().unwrap();
+    // How a run ends that may load a file and that saves to it, its answers, and what the file holds.
+    let ran = |load: bool, text: &str, steps: &str| {
+        fs::write(file, text).unwrap();
+        let load = if load { Some(file) } else { None };
+        let options = Options { load, save: Some(file), trust: false };
+        let mut output = Vec::new();
+        let ended = run(&options, steps.as_bytes(), &mut output).unwrap();
+        let answers = String::from_utf8(output).unwrap();
+        (ended.map_err(Refusal::number), answers, fs::read_to_string(file).unwrap())
+    };
+    let ended = |answers: &str, text: &str| (Ok(()), answers.to_string(), text.to_string());
+    let refused = |n, answers: &str, text: &str| (Err(n), answers.to_string(), text.to_string());
+    let begins = [START, TICK].concat();
+    assert_eq!(ran(false, "old", &begins), ended(&DONE.repeat(2), &record(2)));
+    assert_eq!(ran(true, &record(1), TICK), ended(DONE, &record(2)));
+    assert_eq!(ran(true, &record(7), ""), ended("", &record(7)));
+    assert_eq!(ran(true, "old", &begins), refused(1, "", "old"));
+    assert_eq!(ran(true, &record(0), &begins), refused(2, "", &record(0)));
+    assert_eq!(ran(false, "old", TICK), refused(2, "020000000000000000\n", "old"));
+    fs::remove_file(file).unwrap();
+}

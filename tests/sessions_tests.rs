@@ -1,0 +1,56 @@
+//! Tests of the generator: its lines are read as what it meant, and the records on its way are saved
+//! and loaded.
+
+use super::*;
+use model::reports::REPORTS;
+use saved::{load, save};
+
+#[test]
+fn every_drawn_step_is_read_back() {
+    let mut run = Run::new(1);
+    run.begin();
+    for kind in (0..KINDS).cycle().take(20_000) {
+        let drawn = run.draw(kind);
+        assert_eq!(usize::from(drawn.kind()), kind);
+        assert_eq!(read_line(&line_of(&drawn)), Ok(drawn));
+        run.say(drawn);
+    }
+}
+
+/// A full log, a full queue, notes of most servers, a source, an entry that writes nothing.
+const SORTS: [fn(&Server) -> bool; 5] = [
+    |server| server.log.length == ENTRIES,
+    |server| server.queue.length == REPORTS,
+    |server| server.notes.iter().filter(|note| note.is_used()).count() > 3,
+    |server| server.source.is_some(),
+    |server| server.log.entries.iter().any(|entry| entry.writes_nothing()),
+];
+
+#[test]
+fn records_on_the_way_are_loaded_as_they_were_saved() {
+    let mut run = Run::new(1);
+    (0..40).for_each(|_| run.session(usize::MAX));
+    let (mut cluster, mut seen) = (Cluster::ZERO, [0; SORTS.len()]);
+    for line in run.text.split(|&character| character == b'\n') {
+        let _ = read_line(line).and_then(|read| step(&mut cluster, &read));
+        if run.prng.one_in(4) {
+            let text = save(&cluster).unwrap();
+            assert_eq!(load(&text), Ok(cluster));
+            try_another_digit(&mut run.prng, text);
+            for (times, holds) in seen.iter_mut().zip(SORTS) {
+                *times += u32::from(cluster.counted().iter().any(holds));
+            }
+        }
+    }
+    assert_eq!(cluster, run.cluster);
+    assert_eq!(seen.map(|times| times > 0), [true; SORTS.len()], "{seen:?}");
+}
+
+/// A text with a digit changed is another record's or none's.
+fn try_another_digit(prng: &mut Prng, mut text: Vec<u8>) {
+    let place = prng.below(text.len());
+    text[place] = prng.pick(b"0123456789abcdef");
+    if let Ok(record) = load(&text) {
+        assert_eq!(save(&record), Ok(text));
+    }
+}
