@@ -28,6 +28,12 @@ module _ (p : ℕ → Bool) where
   count-le zero = omega arith
   count-le (suc n) = omega (arith, count-le n, one-le (p n))
 
+  -- from the front
+  pub count-front : (n : ℕ) → count (suc n) p ≡ cond (p 0) 1 0 + count n (λ i. p (suc i))
+  unfolding count
+  count-front zero = refl
+  count-front (suc n) = omega (arith, count-front n)
+
 -- more pass a weaker test
 pub count-mono : (p q : ℕ → Bool) (n : ℕ) → ((i : ℕ) → i < n → p i ≡ true → q i ≡ true) → count n p ≤ count n q
 unfolding count

@@ -1,13 +1,15 @@
 -- Laws of `joinedAt`, for a loop that copies the first elements of one list over another. Assumes nothing.
 use mathlib.Core.Path.{_≡_, refl, ap, sym, _∙_}
 use mathlib.Core.List.{List, _++_}
+use mathlib.Core.Logic.{⊎-elim}
 use Prim.Native.Nat.{ℕ, suc, _+_, _-_, _<_, _≤_}
 use native.Mathlib.Nat.{le-of-lt}
 use native.Mathlib.Numerals.{add-one}
 use native.Mathlib.Omega.{arith}
-use lib.ListN.{length, getD, set, take, drop, length-take, length-drop, length-append, List·getD-append, take-append-drop, drop-of-length-le}
-use lib.Seq.{drop-cons, take-suc, set-at, append-snoc, length-take-le, take-all, getD-take, getD-drop, getD-append-add}
+use lib.ListN.{length, getD, set, take, drop, length-take, length-drop, length-append, List·getD-append, take-append-drop, drop-of-length-le, replicate, length-replicate, getD-replicate}
+use lib.Seq.{drop-cons, take-suc, set-at, append-snoc, length-take-le, take-all, getD-take, getD-drop, getD-append-add, sets, sets-eq, ext-getD}
 use Rattle.base.specs.Lists.{joinedAt}
+use Rattle.base.proofs.Facts.{lt-or-le}
 
 module _ {A : Type 0} where
   pub joined-none : (xs ys : List A) → ys ≡ joinedAt 0 xs ys
@@ -45,3 +47,17 @@ module _ {A : Type 0} where
   -- where the first k agree, the join is the second list
   pub joined-same : (k : ℕ) (xs ys : List A) → take k xs ≡ take k ys → joinedAt k xs ys ≡ ys
   joined-same k xs ys e = ap (λ (z : List A). z ++ drop k ys) e ∙ take-append-drop k ys
+
+  -- a list of which all past the first k is z, put over so many z from the beginning
+  pub refilled : (d z : A) (n k : ℕ) (xs : List A) → length xs ≡ n → k ≤ n → ((i : ℕ) → k ≤ i → i < n → getD xs i d ≡ z) → sets (replicate n z) 0 (take k xs) ≡ xs
+  refilled d z n k xs l h past =
+      let t : 0 + length (take k xs) ≡ k = omega (arith, length-take k xs) in
+      sets-eq (take k xs) (replicate n z) 0 (omega (arith, length-replicate n z))
+      ∙ ap (λ (m : ℕ). take k xs ++ drop m (replicate n z)) t
+      ∙ ext-getD d (joinedAt k xs (replicate n z)) xs (long ∙ length-replicate n z ∙ sym l)
+      (λ i m. ⊎-elim (λ (b : i < k). joined-low d k xs (replicate n z) (omega arith) i b)
+      (λ (b : k ≤ i). joined-high d k xs (replicate n z) (omega arith) i b
+      ∙ getD-replicate n i z d (omega (arith, long, length-replicate n z)) ∙ sym (past i b (omega (arith, long, length-replicate n z)))) (lt-or-le i k))
+    where
+      long : length (joinedAt k xs (replicate n z)) ≡ length (replicate n z)
+      long = length-joined k xs (replicate n z) (omega arith) (omega (arith, length-replicate n z))

@@ -1,29 +1,29 @@
 -- The frames of a record decode to that record: server by server, and in it entries, notes and reports. Assumes nothing.
 use mathlib.Core.Path.{_≡_, refl, sym, ap, _∙_}
-use mathlib.Core.Bool.{Bool, true, false, cond, _&&_, _||_, true≢false}
-use mathlib.Core.List.{List, [], _∷_, _++_, map, append-nil}
-use Prim.Native.Nat.{ℕ, zero, suc, _+_, _-_, _<_, _≤_}
+use mathlib.Core.Bool.{Bool, true, false, cond}
+use mathlib.Core.List.{List, [], _∷_, _++_, map}
+use Prim.Native.Nat.{ℕ, suc, _+_, _-_, _<_, _≤_}
 use native.Mathlib.Nat.{add-zero}
 use native.Mathlib.Numerals.{add-one}
 use native.Mathlib.Omega.{arith}
-use lib.Dec.{eqb, ltb}
-use lib.ListN.{length, getD, set, replicate, length-set, length-append, length-take}
-use lib.Seq.{sets, append-snoc, set-set, set-getD, getD-set-other, take-all}
+use lib.ListN.{length, getD, set, replicate, length-set}
+use lib.Seq.{sets, set-set, set-getD, getD-set-other, take-all}
 use borrow.Author.Tests.{lt-ltb, le-leb}
+use Rattle.base.proofs.Joined.{refilled}
 use Rattle.log.specs.declared.Entry.{Entry}
 use Rattle.log.specs.declared.Log.{Log}
-use Rattle.log.specs.Logs.{logLimit, emptyLog, live, appended}
-use Rattle.log.proofs.Tidy.{Tidy, logOf, tidy-length, tidy-is, tidy-empty, live-appended, tidy-appended}
+use Rattle.log.specs.Logs.{emptyLog, live, appended}
+use Rattle.log.proofs.Tidy.{appendedAll, appended-again}
 use Rattle.mail.specs.declared.Report.{Report}
 use Rattle.mail.specs.declared.Note.{Note}
 use Rattle.mail.specs.declared.Queue.{Queue}
 use Rattle.mail.specs.declared.Mail.{Mail}
-use Rattle.mail.specs.Reports.{zeroNote, givesWay}
-use Rattle.mail.specs.Queues.{queueLimit}
+use Rattle.mail.specs.Reports.{zeroNote}
 use Rattle.mail.specs.Mails.{noteSlots, zeroMail, noteAt, withNotes, withQueue, withSource, received}
 use Rattle.mail.specs.Order.{isUnused}
 use Rattle.mail.proofs.Good.{unused-is}
-use Rattle.mail.proofs.Held.{noted-new, queued-room, zero-note-at}
+use Rattle.mail.proofs.Held.{noted-new, zero-note-at}
+use Rattle.mail.proofs.Filled.{queuedAll, queued-again, used-greater}
 use Rattle.cluster.specs.declared.Head.{Head}
 use Rattle.cluster.specs.declared.Server.{Server}
 use Rattle.cluster.specs.declared.Cluster.{Cluster}
@@ -41,22 +41,10 @@ use Rattle.loads.specs.declared.Draft.{Draft}
 use Rattle.loads.specs.Decoded.{toldBy, beginning, telling, withFrame, roomy, decodedBy, freshDraft, decoded}
 use Rattle.loads.proofs.Counted.{counted, AllCount, counted-long, all-count}
 use Rattle.loads.proofs.Fields.{reporting, head-read, told-entry, told-note, told-report}
-use Rattle.loads.proofs.Filled.{refilled, queueFilled, queueMore, queue-filled, queue-refilled}
 
 decoded-append : (d : Draft) (xs ys : List (List ℕ)) → decodedBy d (xs ++ ys) ≡ decodedBy (decodedBy d xs) ys
 decoded-append d [] ys = refl
 decoded-append d (x ∷ xs) ys = decoded-append (withFrame d (roomy x)) xs ys
-
--- a note that is used is greater than an unused one
-used-greater : (n : Note) → isUnused n ≡ false → givesWay zeroNote n ≡ true
-unfolding isUnused givesWay
-used-greater n = go (n .term) (n .last) (n .len)
-  where
-    go : (t l k : ℕ) → (eqb t 0 && (eqb l 0 && eqb k 0)) ≡ false → (ltb 0 t || (eqb 0 t && (ltb 0 l || (eqb 0 l && ltb 0 k)))) ≡ true
-    go zero zero zero h = absurd (true≢false h)
-    go zero zero (suc k) h = lt-ltb 0 (suc k) (omega arith)
-    go zero (suc l) k h = rw (lt-ltb 0 (suc l) (omega arith))
-    go (suc t) l k h = rw (lt-ltb 0 (suc t) (omega arith))
 
 -- server i was begun last
 abbrev building : Cluster → ℕ → Server → Draft
@@ -81,17 +69,9 @@ module _ (c : Cluster) (i : ℕ) (slots : length (c .servers) ≡ mostServers) (
   unfolding withFrame
   an-entry s e = tells s (roomy (entryFrame e)) ∙ ap (building c i) (told-entry s e)
 
-  entries : (s : Server) (es : List Entry) → Tidy (s .log) → s .log .len + length es ≤ logLimit
-      → decodedBy (building c i s) (map entryFrame es) ≡ building c i (withLog s (logOf (live (s .log) ++ es)))
-  entries s [] t h = ap (λ (g : Log). building c i (withLog s g)) (tidy-is t ∙ ap logOf (sym (append-nil (live (s .log)))))
-  entries s (e ∷ es) t h =
-      let room : s .log .len < logLimit = omega arith in
-      let more = tidy-appended t e room in
-      let held = live-appended t e room in
-      ap (λ (d : Draft). decodedBy d (map entryFrame es)) (an-entry s e)
-      ∙ entries (withLog s (appended (s .log) e)) es more (omega (arith, tidy-length more, tidy-length t, ap length held, length-append (live (s .log)) (e ∷ [])))
-      ∙ ap (λ (xs : List Entry). building c i (withLog s (logOf (xs ++ es)))) held
-      ∙ ap (λ (xs : List Entry). building c i (withLog s (logOf xs))) (append-snoc (live (s .log)) e es)
+  entries : (s : Server) (es : List Entry) → decodedBy (building c i s) (map entryFrame es) ≡ building c i (withLog s (appendedAll (s .log) es))
+  entries s [] = refl
+  entries s (e ∷ es) = ap (λ (d : Draft). decodedBy d (map entryFrame es)) (an-entry s e) ∙ entries (withLog s (appended (s .log) e)) es
 
   -- ---- notes
 
@@ -130,16 +110,10 @@ module _ (c : Cluster) (i : ℕ) (slots : length (c .servers) ≡ mostServers) (
   unfolding withFrame
   a-report s r = tells s (roomy (reportFrame r)) ∙ ap (building c i) (told-report s r)
 
-  reports : (s : Server) (rs : List Report) → s .mail .queue .len + length rs ≤ queueLimit
-      → decodedBy (building c i s) (map reportFrame rs) ≡ building c i (withMail s (withQueue (s .mail) (queueFilled (s .mail .queue) rs)))
-  reports s [] h =
-      ap (λ (n : ℕ). building c i (withMail s (withQueue (s .mail) (record { reports = s .mail .queue .reports; len = n })))) (sym (add-zero (s .mail .queue .len)))
-  reports s (r ∷ rs) h =
-      let q = s .mail .queue in
-      let more : withFrame (building c i s) (roomy (reportFrame r)) ≡ building c i (withMail s (withQueue (s .mail) (queueMore q r))) =
-      a-report s r ∙ ap (λ (p : Queue). building c i (withMail s (withQueue (s .mail) p))) (queued-room q r (omega arith)) in
-      ap (λ (d : Draft). decodedBy d (map reportFrame rs)) more ∙ reports (withMail s (withQueue (s .mail) (queueMore q r))) rs (omega arith)
-      ∙ ap (λ (p : Queue). building c i (withMail s (withQueue (s .mail) p))) (queue-filled q r rs)
+  reports : (s : Server) (rs : List Report)
+      → decodedBy (building c i s) (map reportFrame rs) ≡ building c i (withMail s (withQueue (s .mail) (queuedAll (s .mail .queue) rs)))
+  reports s [] = refl
+  reports s (r ∷ rs) = ap (λ (d : Draft). decodedBy d (map reportFrame rs)) (a-report s r) ∙ reports (withMail s (received (s .mail) r)) rs
 
   -- ---- a server
 
@@ -151,13 +125,12 @@ module _ (c : Cluster) (i : ℕ) (slots : length (c .servers) ≡ mostServers) (
   server s x =
       ap (λ (d : Draft). decodedBy d (map entryFrame (live (s .log)) ++ rest)) (begins s)
       ∙ decoded-append (building c i (bare s)) (map entryFrame (live (s .log))) rest
-      ∙ ap (λ (d : Draft). decodedBy d rest) (entries (bare s) (live (s .log)) tidy-empty (omega (arith, tidy-length (x .good .log .tidy), x .good .log .tidy .short)))
-      ∙ ap (λ (g : Log). decodedBy (building c i (withLog (bare s) g)) rest) (sym (tidy-is (x .good .log .tidy)))
+      ∙ ap (λ (d : Draft). decodedBy d rest) (entries (bare s) (live (s .log)))
+      ∙ ap (λ (g : Log). decodedBy (building c i (withLog (bare s) g)) rest) (appended-again (x .good .log .tidy))
       ∙ decoded-append (building c i logged) (noteFrames 0 (s .mail .notes)) (map reportFrame (queuedReports q))
       ∙ ap (λ (d : Draft). decodedBy d (map reportFrame (queuedReports q))) (notes logged 0 (s .mail .notes) (λ k l. zero-note-at k))
       ∙ ap (λ (r : List Note). decodedBy (building c i (withMail logged (withNotes (logged .mail) r))) (map reportFrame (queuedReports q))) row
-      ∙ reports noting (queuedReports q) (omega (arith, length-take (q .len) (q .reports), x .mailed .queue .short))
-      ∙ ap (λ (p : Queue). building c i (withMail noting (withQueue (noting .mail) p))) (queue-refilled (x .mailed .queue))
+      ∙ reports noting (queuedReports q) ∙ ap (λ (p : Queue). building c i (withMail noting (withQueue (noting .mail) p))) (queued-again (x .mailed .queue))
     where
       q : Queue
       q = s .mail .queue

@@ -1,6 +1,5 @@
 -- Laws of decoding and loading. Assumes nothing.
 pub mod Fields
-pub mod Filled
 pub mod Counted
 pub mod Decoding
 pub mod Shaped

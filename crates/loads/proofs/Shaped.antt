@@ -2,13 +2,14 @@
 use mathlib.Core.Path.{_≡_, refl, sym, ap, _∙_}
 use mathlib.Core.Bool.{Bool, true, false, cond, not, _&&_}
 use mathlib.Core.List.{List, [], _∷_, _++_, map, append-assoc}
-use Prim.Native.Nat.{ℕ, zero, suc, _+_}
+use Prim.Native.Nat.{ℕ, suc, _+_}
 use native.Mathlib.Omega.{arith}
 use lib.Dec.{eqb}
 use lib.ListN.{length, getD, replicate, length-take}
 use borrow.Author.Tests.{eq-eqb, eqb-true, eqb-false}
 use Rattle.base.specs.Numbers.{count}
 use Rattle.base.proofs.Bools.{and-both}
+use Rattle.base.proofs.Counting.{count-front}
 use Rattle.hex.specs.Lines.{bytesOf, hexOf}
 use Rattle.hex.proofs.Trips.{Bytes, bytes-hex}
 use Rattle.hex.proofs.Places.{hex-length}
@@ -73,29 +74,21 @@ lines-shaped (s ∷ ss) (all-more {f} {fs} b bs) =
 
 -- ---- the frames of a server
 
--- a count from the front
-count-front : (n : ℕ) (p : ℕ → Bool) → count (suc n) p ≡ cond (p 0) 1 0 + count n (λ i. p (suc i))
-unfolding count
-count-front zero p = refl
-count-front (suc n) p = omega (arith, count-front n p)
-
 used-frames : (j : ℕ) (ns : List Note) → count (length ns) (λ i. not (isUnused (getD ns i zeroNote))) ≡ length (noteFrames j ns)
 unfolding count
 used-frames j [] = refl
-used-frames j (n ∷ ns) = count-front (length ns) (λ i. not (isUnused (getD (n ∷ ns) i zeroNote))) ∙ go (isUnused n) (used-frames (suc j) ns)
+used-frames j (n ∷ ns) = count-front (λ i. not (isUnused (getD (n ∷ ns) i zeroNote))) (length ns) ∙ go (isUnused n) (used-frames (suc j) ns)
   where
     go : (b : Bool) → count (length ns) (λ i. not (isUnused (getD ns i zeroNote))) ≡ length (noteFrames (suc j) ns)
         → cond (not b) 1 0 + count (length ns) (λ i. not (isUnused (getD ns i zeroNote))) ≡ length (cond b (noteFrames (suc j) ns) (noteFrame j n ∷ noteFrames (suc j) ns))
     go true h = omega arith
     go false h = omega arith
 
-entries-framed : (ss : List Sort) (fs : List (List ℕ)) (es : List Entry) → framedBy (replicate (length es) S.Entry ++ ss) (map entryFrame es ++ fs) ≡ framedBy ss fs
-entries-framed ss fs [] = refl
-entries-framed ss fs (e ∷ es) = entries-framed ss fs es
-
-reports-framed : (ss : List Sort) (fs : List (List ℕ)) (rs : List Report) → framedBy (replicate (length rs) S.Report ++ ss) (map reportFrame rs ++ fs) ≡ framedBy ss fs
-reports-framed ss fs [] = refl
-reports-framed ss fs (r ∷ rs) = reports-framed ss fs rs
+-- frames of one sort that announce nothing
+each-framed : {A : Type 0} (k : Sort) (f : A → List ℕ) → ((x : A) (ss : List Sort) (fs : List (List ℕ)) → framedBy (k ∷ ss) (f x ∷ fs) ≡ framedBy ss fs)
+    → (ss : List Sort) (fs : List (List ℕ)) (xs : List A) → framedBy (replicate (length xs) k ++ ss) (map f xs ++ fs) ≡ framedBy ss fs
+each-framed k f h ss fs [] = refl
+each-framed k f h ss fs (x ∷ xs) = h x (replicate (length xs) k ++ ss) (map f xs ++ fs) ∙ each-framed k f h ss fs xs
 
 notes-framed : (ss : List Sort) (fs : List (List ℕ)) (j : ℕ) (ns : List Note) → framedBy (replicate (length (noteFrames j ns)) S.Note ++ ss) (noteFrames j ns ++ fs) ≡ framedBy ss fs
 notes-framed ss fs j [] = refl
@@ -115,8 +108,8 @@ all-framed : (ss : List Sort) (fs : List (List ℕ)) (es : List Entry) (ns : Lis
     ≡ framedBy ss fs
 all-framed ss fs es ns rs =
     simp append-assoc
-    (entries-framed (replicate (length (noteFrames 0 ns)) S.Note ++ (replicate (length rs) S.Report ++ ss)) (noteFrames 0 ns ++ (map reportFrame rs ++ fs)) es
-    ∙ notes-framed (replicate (length rs) S.Report ++ ss) (map reportFrame rs ++ fs) 0 ns ∙ reports-framed ss fs rs)
+    (each-framed S.Entry entryFrame (λ e ss fs. refl) (replicate (length (noteFrames 0 ns)) S.Note ++ (replicate (length rs) S.Report ++ ss)) (noteFrames 0 ns ++ (map reportFrame rs ++ fs)) es
+    ∙ notes-framed (replicate (length rs) S.Report ++ ss) (map reportFrame rs ++ fs) 0 ns ∙ each-framed S.Report reportFrame (λ r ss fs. refl) ss fs rs)
 
 -- what a server's frame announces is what follows it
 server-framed : {n j : ℕ} {s : Server} → ServerSound n j s → (ss : List Sort) (fs : List (List ℕ)) → framedBy (S.Server ∷ ss) (serverFrames s ++ fs) ≡ framedBy ss fs

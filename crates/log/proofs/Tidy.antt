@@ -1,12 +1,12 @@
 -- A log whose slots past its length are zero is its list of entries: what makes a log is the list operation on it. Assumes nothing.
 use mathlib.Core.Path.{_≡_, ap, sym, _∙_}
-use mathlib.Core.List.{List, [], _∷_, _++_}
+use mathlib.Core.List.{List, [], _∷_, _++_, append-nil}
 use mathlib.Core.Logic.{⊎-elim}
 use Prim.Native.Nat.{ℕ, _+_, _-_, _<_, _≤_}
 use native.Mathlib.Numerals.{add-one}
 use native.Mathlib.Omega.{arith}
 use lib.ListN.{length, getD, set, replicate, length-take, length-append, length-replicate, getD-replicate, length-set, List·getD-eq-default, List·getD-append}
-use lib.Seq.{getD-append-add, getD-set-other, take-suc-set, ext-getD, getD-take}
+use lib.Seq.{append-snoc, getD-append-add, getD-set-other, take-suc-set, ext-getD, getD-take}
 use borrow.Author.Tests.{lt-ltb}
 use Rattle.base.specs.Lists.{joinedAt}
 use Rattle.base.proofs.Facts.{lt-or-le}
@@ -84,6 +84,24 @@ module _ {g : Log} (t : Tidy g) (e : Entry) (room : g .len < logLimit) where
         short = omega (arith, room);
         rest = λ i h. getD-set-other (g .entries) (g .len) i e zeroEntry (omega arith) ∙ t .rest i (omega arith);
       })
+
+-- ---- entries one after the other
+
+abbrev pub appendedAll : Log → List Entry → Log
+appendedAll g [] = g
+appendedAll g (e ∷ es) = appendedAll (appended g e) es
+
+all-appended : {g : Log} → Tidy g → (es : List Entry) → g .len + length es ≤ logLimit → appendedAll g es ≡ logOf (live g ++ es)
+all-appended {g} t [] h = tidy-is t ∙ ap logOf (sym (append-nil (live g)))
+all-appended {g} t (e ∷ es) h =
+    let more = tidy-appended t e (omega arith) in
+    let held = live-appended t e (omega arith) in
+    all-appended more es (omega (arith, tidy-length more, tidy-length t, ap length held, length-append (live g) (e ∷ [])))
+    ∙ ap (λ (xs : List Entry). logOf (xs ++ es)) held ∙ ap logOf (append-snoc (live g) e es)
+
+-- a log is its entries, appended in order to the empty log
+pub appended-again : {g : Log} → Tidy g → appendedAll emptyLog (live g) ≡ g
+appended-again {g} t = all-appended tidy-empty (live g) (omega (arith, tidy-length t, t .short)) ∙ sym (tidy-is t)
 
 -- ---- join: the first k entries of a, and then the rest of b
 

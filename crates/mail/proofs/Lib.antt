@@ -2,5 +2,6 @@
 pub mod Held
 pub mod Good
 pub mod Kept
+pub mod Filled
 pub mod Ranges
 pub mod Results
