@@ -1,2 +1,3 @@
--- Laws over the program's loop. Assumes nothing.
+-- Laws over the program's loop and over loading. Assumes nothing.
 pub mod Loop
+pub mod Saving

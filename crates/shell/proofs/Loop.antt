@@ -36,13 +36,13 @@ poured s piece out out′ f wrote h e o = (
 )
 
 -- what the tests of a signed number say of it
-signed-is : (z : ℤ) (n : ℕ) → SFits w64 z → ofZ w64 z ≡ n → z ≡ toZ w64 n
+pub signed-is : (z : ℤ) (n : ℕ) → SFits w64 z → ofZ w64 z ≡ n → z ≡ toZ w64 n
 signed-is z n f e = sym (toZ-ofZ w64 z f) ∙ ap (toZ w64) e
 
-signed-below : (z : ℤ) (b : Bool) → SFits w64 z → ltZ (toZ w64 (ofZ w64 z)) (pos 0) ≡ b → ltZ z (pos 0) ≡ b
+pub signed-below : (z : ℤ) (b : Bool) → SFits w64 z → ltZ (toZ w64 (ofZ w64 z)) (pos 0) ≡ b → ltZ z (pos 0) ≡ b
 signed-below z b f e = ap (λ (y : ℤ). ltZ y (pos 0)) (sym (toZ-ofZ w64 z f)) ∙ e
 
-none : (n : ℕ) → 0 ≡ min 0 n
+pub none : (n : ℕ) → 0 ≡ min 0 n
 none n = simp unary-clauses
 
 -- the read answered 0

@@ -1,4 +1,6 @@
 // A saved record, read from one descriptor and written to another. The launcher opens both.
+ghost use mathlib.Core.Path.{_≡_};
+ghost use Rattle.shell.specs.Saving.{turnWalked, WalksOn};
 use crate::End;
 use crate::PIECE;
 use crate::say;
@@ -30,7 +32,9 @@ pub struct Led {
 }
 
 // One turn with what a read answered.
-fn walk_turn(w: Walked, buffer: &[u8], got: isize) -> Walked {
+fn walk_turn(w: Walked, buffer: &[u8], got: isize) -> Walked
+    ensures { λ r. ⌜ r ≡ turnWalked w (now (buffer .entry)) got ⌝ }
+{
     if got == 0 {
         return Walked {
             end: End::Input,
@@ -54,7 +58,9 @@ fn walk_turn(w: Walked, buffer: &[u8], got: isize) -> Walked {
 }
 
 // The rest of a text whose beginning has this shape: it is read to its end and let go.
-fn walk_on(s: Shape) -> Walked {
+fn walk_on(s: Shape) -> Walked
+    ensures { λ r. ⌜ WalksOn s r ⌝ }
+{
     let mut w = Walked {
         shape: s,
         came: false,

@@ -1,16 +1,32 @@
--- `shell::saves::walk_on` meets its contract. Assumes nothing.
+-- `shell::saves::walk_on` meets its contract. Its loop keeps the pieces that the shape is walked through. Assumes nothing.
+use Prim.Native.Nat.{ℕ}
+use mathlib.Core.Path.{_≡_, subst}
+use mathlib.Core.List.{List, [], _∷_}
+use types.Run.{OneOf, miss}
+use denote.Enum.Declared.{tagOf}
+use Rattle.shell.specs.declared.End.{End}
+use Rattle.shell.specs.declared.End.the-variants.{More}
+use Rattle.shell.proofs.End.{the-type}
+use Rattle.shell.proofs.Saving.{Walking, walk-begins, walk-goes-on, walk-stops, walk-gives-up}
 use borrow.Author.Needs.{needs}
 use Rattle.shell.proofs.saves.walk_on.Statement.{statement}
 use Rattle.shell.proofs.saves.walk_on.Tie as tie
 
+-- the places of the ends at which it is over
+abbrev ends : List ℕ
+ends = 1 ∷ 2 ∷ 3 ∷ []
+
+over : (e : End) → OneOf ends (tagOf the-type e) → e ≡ More → ⊥
+over e h m = miss ends 0 tt (subst (λ (x : End). OneOf ends (tagOf the-type x)) m h)
+
 abbrev Inv-loop : tie.InvT-loop
-Inv-loop w₀ turns₀ w turns = Unit {0}
+Inv-loop w₀ turns₀ w turns = Walking (w₀ .shape) w turns
 
 abbrev μ-loop : tie.MeasureT-loop
 μ-loop w₀ turns₀ w turns = turns
 
 loop-holds : tie.Need-loop-holds Inv-loop μ-loop
-loop-holds c = tt
+loop-holds c = walk-begins _
 
 slice-aggregate-read : tie.Need-slice-aggregate-read Inv-loop μ-loop
 slice-aggregate-read c = search needs
@@ -28,7 +44,10 @@ enum-told : tie.Need-enum-told Inv-loop μ-loop
 enum-told c = search needs
 
 returns : tie.Need-returns Inv-loop μ-loop
-returns c = search needs
+returns c =
+    let turned = c .before in
+    let tested = turned .before .before .before .before .before in
+    walk-stops _ _ (turned .walk-turn .result) _ _ _ (tested .before .loop .inv) (turned .walk-turn .ensures) (tested .loop-test .taken) (over _ (c .match .keys2))
 
 sub-turns : tie.Need-sub-turns Inv-loop μ-loop
 sub-turns c = search needs
@@ -37,10 +56,13 @@ loop-less : tie.Need-loop-less Inv-loop μ-loop
 loop-less c = search needs
 
 loop-again : tie.Need-loop-again Inv-loop μ-loop
-loop-again c = tt
+loop-again c =
+    let turned = c .before .before in
+    let tested = turned .before .before .before .before .before in
+    walk-goes-on _ _ (turned .walk-turn .result) _ _ _ (tested .before .loop .inv) (turned .walk-turn .ensures) (tested .loop-test .taken)
 
 returns-2 : tie.Need-returns-2 Inv-loop μ-loop
-returns-2 c = search needs
+returns-2 c = walk-gives-up _ _ _ (c .loop-test .left) (c .before .loop .inv)
 
 pub walk-on-spec : {M : Type 1} → statement M
 walk-on-spec =

@@ -1,0 +1,116 @@
+-- Loading and saving, a law for each way that a turn can go. Assumes nothing.
+use mathlib.Core.Path.{_≡_, refl, sym, ap, _∙_}
+use mathlib.Core.Bool.{Bool, true, false, cond}
+use mathlib.Core.List.{List, [], _∷_, _++_, append-assoc, append-nil}
+use Prim.Native.Nat.{ℕ, _≤_, _<_, _+_, _-_, min}
+use native.Mathlib.Omega.{arith}
+use lib.Dec.{eqb}
+use lib.ListN.{length, take, length-append}
+use lib.IntN.{ℤ, pos, negsuc}
+use lib.Signed.{ltZ}
+use mir.Syntax.{w64}
+use mir.Val.{SFits, toZ, ofZ}
+use mir.ValLaws.{toZ-ofZ}
+use borrow.Author.Tests.{ne-eqb, ltb-true, eqb-true}
+use Rattle.base.proofs.Bools.{not-both}
+use Rattle.io.specs.Counts.{clamped}
+use Rattle.replay.specs.Pieces.{together}
+use Rattle.shapes.specs.declared.Shape.{Shape}
+use Rattle.shapes.specs.Walk.{walked}
+use Rattle.shapes.proofs.Told.{walked-append}
+use Rattle.shell.specs.declared.End.the-variants.{More, Input, CannotRead}
+use Rattle.shell.specs.declared.saves.Walked.{Walked}
+use Rattle.shell.specs.Loop.{mostTurns, endOf, given}
+use Rattle.shell.specs.Saving.{cameBy, turnWalked, WalksOn}
+use Rattle.shell.proofs.Loop.{signed-is, signed-below, none}
+
+-- the read answered 0
+pub walked-end : (w : Walked) (buffer : List ℕ) (got : ℤ) → SFits w64 got → ofZ w64 got ≡ 0
+    → record { shape = w .shape; came = w .came; end = Input } ≡ turnWalked w buffer got
+unfolding endOf cameBy turnWalked
+walked-end w buffer got f e =
+    rw (signed-is got 0 f e)
+    (ap (λ (k : ℕ). record { shape = walked (w .shape) (take k buffer); came = w .came; end = Input }) (none (length buffer)))
+
+-- the read answered that it failed
+pub walked-failed : (w : Walked) (buffer : List ℕ) (got : ℤ) → SFits w64 got → ltZ (toZ w64 (ofZ w64 got)) (pos 0) ≡ true
+    → record { shape = w .shape; came = w .came; end = CannotRead } ≡ turnWalked w buffer got
+unfolding endOf cameBy turnWalked
+walked-failed w buffer got f e = go got (signed-below got true f e)
+  where
+    go : (z : ℤ) → ltZ z (pos 0) ≡ true → record { shape = w .shape; came = w .came; end = CannotRead } ≡ turnWalked w buffer z
+    go (pos n) h = let l : n < 0 = ltb-true n 0 h in let z : ⊥ = omega arith in absurd z
+    go (negsuc n) h = refl
+
+-- the read answered some bytes
+pub walked-piece : (w : Walked) (buffer : List ℕ) (got : ℤ) (n : ℕ) (q : Shape) → SFits w64 got → (ofZ w64 got ≡ 0 → ⊥)
+    → ltZ (toZ w64 (ofZ w64 got)) (pos 0) ≡ false → n ≡ clamped (toZ w64 (ofZ w64 got)) (length buffer) → q ≡ walked (w .shape) (take n buffer)
+    → record { shape = q; came = true; end = More } ≡ turnWalked w buffer got
+unfolding endOf cameBy turnWalked
+walked-piece w buffer got n q f a b e p =
+    go got (signed-below got false f b) (λ z. a (ap (ofZ w64) z)) (e ∙ ap (λ (z : ℤ). clamped z (length buffer)) (toZ-ofZ w64 got f))
+  where
+    go : (z : ℤ) → ltZ z (pos 0) ≡ false → (z ≡ pos 0 → ⊥) → n ≡ clamped z (length buffer)
+        → record { shape = q; came = true; end = More } ≡ turnWalked w buffer z
+    go (pos k) h some e =
+        rw (ne-eqb k 0 (λ z. some (ap pos z)))
+        (ap (λ (x : Shape). record { shape = x; came = true; end = More }) (p ∙ ap (λ (j : ℕ). walked (w .shape) (take j buffer)) e))
+    go (negsuc k) h some e = let z : _≡_ {A = ℕ} 0 1 = cc in let w : ⊥ = omega arith in absurd w
+
+-- where nothing came, nothing was given
+none-given : (got : ℤ) (buffer : List ℕ) (before : Bool) → cameBy got before ≡ false → (before ≡ false) × (given got buffer ≡ [])
+unfolding cameBy
+none-given (pos n) buffer before e = go (eqb n 0) refl e
+  where
+    go : (x : Bool) → eqb n 0 ≡ x → cond x before true ≡ false → (before ≡ false) × (given (pos n) buffer ≡ [])
+    go true k e = (
+      e,
+      ap (λ (j : ℕ). take (min j (length buffer)) buffer) (eqb-true n 0 k) ∙ sym (ap (λ (j : ℕ). take j buffer) (none (length buffer))),
+    )
+    go false k e = not-both true refl e
+none-given (negsuc n) buffer before e = (e, refl)
+
+-- one piece more
+together-more : (xs : List (List ℕ)) (x : List ℕ) → together (xs ++ (x ∷ [])) ≡ together xs ++ x
+together-more [] x = append-nil x
+together-more (y ∷ ys) x = ap (λ (l : List ℕ). y ++ l) (together-more ys x) ∙ sym (append-assoc y (together ys) x)
+
+-- the shape is walked through some pieces, so many that the rest of the turns is left
+pub record Walking (s : Shape) (w : Walked) (turns : ℕ) : Type 0 where
+  pub pieces : List (List ℕ)
+  pub shape : w .shape ≡ walked s (together pieces)
+  pub none : w .came ≡ false → together pieces ≡ []
+  pub last : ℤ
+  pub end : w .end ≡ endOf last true
+  pub left : length pieces + turns ≡ mostTurns
+
+pub walk-begins : (s : Shape) → Walking s (record { shape = s; came = false; end = More }) mostTurns
+unfolding endOf
+walk-begins s = record { pieces = []; shape = refl; none = λ _. refl; last = pos 1; end = refl; left = refl }
+
+pub walk-goes-on : (s : Shape) (w r : Walked) (turns : ℕ) (buffer : List ℕ) (got : ℤ) → Walking s w turns → r ≡ turnWalked w buffer got → 0 < turns
+    → Walking s r (turns - 1)
+unfolding turnWalked
+walk-goes-on s w r turns buffer got g e h =
+    record {
+      pieces = g .pieces ++ (given got buffer ∷ []);
+      shape =
+          ap (λ (x : Walked). x .shape) e ∙ ap (λ (q : Shape). walked q (given got buffer)) (g .shape)
+          ∙ sym (walked-append s (together (g .pieces)) (given got buffer)) ∙ sym (ap (walked s) (together-more (g .pieces) (given got buffer)));
+      none =
+          λ n. let k = none-given got buffer (w .came) (sym (ap (λ (x : Walked). x .came) e) ∙ n) in
+          together-more (g .pieces) (given got buffer) ∙ ap (λ (l : List ℕ). l ++ given got buffer) (g .none (k .0)) ∙ k .1;
+      last = got;
+      end = ap (λ (x : Walked). x .end) e;
+      left = omega (arith, length-append (g .pieces) (given got buffer ∷ []), g .left);
+    }
+
+pub walk-stops : (s : Shape) (w r : Walked) (turns : ℕ) (buffer : List ℕ) (got : ℤ) → Walking s w turns → r ≡ turnWalked w buffer got → 0 < turns
+    → (r .end ≡ More → ⊥) → WalksOn s r
+walk-stops s w r turns buffer got g e h over =
+    let n = walk-goes-on s w r turns buffer got g e h in
+    record { pieces = n .pieces; shape = n .shape; none = n .none; last = n .last; end = n .end; patient = λ m. absurd (over m) }
+
+pub walk-gives-up : (s : Shape) (w : Walked) (turns : ℕ) → turns ≤ 0 → Walking s w turns → WalksOn s w
+walk-gives-up s w turns h g =
+    record { pieces = g .pieces; shape = g .shape; none = g .none; last = g .last; end = g .end; patient = λ _. omega (arith, g .left) }
