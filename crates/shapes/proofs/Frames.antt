@@ -10,7 +10,7 @@ use lib.Seq.{take-length, getD-drop}
 use Rattle.base.specs.Lists.{joinedAt}
 use Rattle.hex.specs.Lines.{chars, bytesOf, over}
 use Rattle.hex.proofs.Places.{bytes-length}
-use Rattle.words.specs.Words.{byteAt, wordOf}
+use Rattle.words.specs.Words.{byteAt}
 use Rattle.saved.specs.declared.Sort.{Sort}
 use Rattle.saved.specs.declared.Sort.the-variants as S
 use Rattle.saved.specs.Layout.{sortNumber, sizeOf}

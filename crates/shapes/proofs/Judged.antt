@@ -2,7 +2,7 @@
 use mathlib.Core.Path.{_≡_, refl, sym, ap, _∙_}
 use mathlib.Core.Bool.{Bool, true, false, cond}
 use mathlib.Core.List.{List}
-use Prim.Native.Nat.{ℕ, _≤_, _<_, min}
+use Prim.Native.Nat.{ℕ, _≤_, _<_}
 use native.Mathlib.Omega.{arith}
 use lib.ListN.{length, take, replicate, length-take}
 use Rattle.hex.specs.Lines.{bytesOf, over}
@@ -11,11 +11,10 @@ use Rattle.saved.specs.declared.Sort.{Sort}
 use Rattle.saved.specs.Layout.{sizeOf}
 use Rattle.saved.specs.Shape.{isFrame}
 use Rattle.saved.specs.Written.{mostBytes}
-use Rattle.shapes.specs.declared.Left.{Left}
 use Rattle.shapes.specs.declared.Shape.{Shape}
 use Rattle.shapes.specs.declared.Due.{Due}
 use Rattle.shapes.specs.declared.Due.the-variants.{Frame, End}
-use Rattle.shapes.specs.Walk.{kept, dueOf, leftAfter, numberAfter, lineHeld, brokenAt, nextLine, endedAs, lineEnded}
+use Rattle.shapes.specs.Walk.{kept, dueOf, numberAfter, lineHeld, brokenAt, nextLine, endedAs, lineEnded}
 use Rattle.shapes.proofs.Frames.{small, bytes-same, saysSo, left-same}
 
 module _ (s : Shape) where

@@ -10,9 +10,8 @@ use lib.Dec.{eqb}
 use lib.ListN.{length, getD, drop, set}
 use lib.Seq.{drop-cons}
 use Rattle.base.proofs.Bools.{and-no}
-use Rattle.hex.specs.Lines.{chars, bytesOf}
+use Rattle.hex.specs.Lines.{bytesOf}
 use Rattle.hex.proofs.Places.{hex-length}
-use Rattle.words.specs.Words.{byteAt}
 use Rattle.words.proofs.Framed.{is-frame}
 use Rattle.words.proofs.Held as Held
 use Rattle.words.proofs.Held.{empty-stands, held-empty, held-some, held-is, held-framed, push-holds}
@@ -20,11 +19,10 @@ use Rattle.replay.specs.Texts.{lineFeed, lines}
 use Rattle.replay.proofs.Lines.{Plain, none, more, plain-snoc, line-first}
 use Rattle.saved.specs.declared.Sort.{Sort}
 use Rattle.saved.specs.declared.Sort.the-variants as S
-use Rattle.saved.specs.Layout.{sortNumber, sizeOf}
-use Rattle.saved.specs.Shape.{editionOk, isFrame, shapedBy, shaped}
+use Rattle.saved.specs.Layout.{sizeOf}
+use Rattle.saved.specs.Shape.{isFrame, shapedBy, shaped}
 use Rattle.shapes.specs.declared.Shape.{Shape}
 use Rattle.shapes.specs.declared.Due.{Due}
-use Rattle.shapes.specs.declared.Due.the-variants.{Frame}
 use Rattle.shapes.specs.Walk.{kept, freshShape, todo, leftAfter, lineHeld, withLine, pushOf, brokenAt, nextLine, endedAs, lineEnded, shapeAfter, walked, isShaped}
 use Rattle.shapes.proofs.Frames.{small, saysSo}
 use Rattle.shapes.proofs.Ahead.{Tells, over, next, tells, at-end}

@@ -5,8 +5,6 @@ use Rattle.base.proofs.Bools.{said-no, said-yes}
 use Rattle.shapes.specs.Walk.{dueOf}
 use Rattle.shapes.proofs.due_of.Statement.{statement}
 use Rattle.shapes.proofs.due_of.Tie as tie
-use Rattle.shapes.proofs.due_of.Reads as reads
-use Rattle.shapes.proofs.due_of.Lts as lts
 
 begun : (c : tie.Else1) → c .before .before .args .l .begun ≡ true
 begun c = said-yes _ _ refl (c .if1 .left)

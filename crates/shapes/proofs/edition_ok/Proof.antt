@@ -4,8 +4,6 @@ use Rattle.saved.specs.Shape.{editionOk}
 use borrow.Author.Needs.{needs}
 use Rattle.shapes.proofs.edition_ok.Statement.{statement}
 use Rattle.shapes.proofs.edition_ok.Tie as tie
-use Rattle.shapes.proofs.edition_ok.Reads as reads
-use Rattle.shapes.proofs.edition_ok.Lts as lts
 
 -- src/lib.rt:78:24
 enum-told : tie.Need-enum-told

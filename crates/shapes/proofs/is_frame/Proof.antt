@@ -12,12 +12,6 @@ use Rattle.shapes.proofs.Frames.{small, bytes-same, saysSo, says-same}
 use borrow.Author.Needs.{needs}
 use Rattle.shapes.proofs.is_frame.Statement.{statement}
 use Rattle.shapes.proofs.is_frame.Tie as tie
-use Rattle.shapes.proofs.is_frame.Reads as reads
-use Rattle.shapes.proofs.is_frame.Lts as lts
-use Rattle.hex.proofs.all_hex.Reads as all-hex-reads
-use Rattle.shapes.proofs.bytes_in.Reads as bytes-in-reads
-use Rattle.shapes.proofs.says.Reads as says-reads
-use Rattle.shapes.proofs.size_of.Reads as size-of-reads
 
 -- src/lib.rt:109:35
 size-of-requires : tie.Need-size-of-requires

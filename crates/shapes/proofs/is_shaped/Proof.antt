@@ -4,9 +4,6 @@ use Rattle.shapes.specs.Walk.{isShaped}
 use borrow.Author.Needs.{needs}
 use Rattle.shapes.proofs.is_shaped.Statement.{statement}
 use Rattle.shapes.proofs.is_shaped.Tie as tie
-use Rattle.shapes.proofs.is_shaped.Reads as reads
-use Rattle.shapes.proofs.is_shaped.Lts as lts
-use Rattle.shapes.proofs.expected.Reads as expected-reads
 
 -- src/lib.rt:299:9
 returns : tie.Need-returns

@@ -4,10 +4,6 @@ use Rattle.shapes.specs.Walk.{leftAfter}
 use borrow.Author.Needs.{needs}
 use Rattle.shapes.proofs.left_after.Statement.{statement}
 use Rattle.shapes.proofs.left_after.Tie as tie
-use Rattle.shapes.proofs.left_after.Reads as reads
-use Rattle.shapes.proofs.left_after.Lts as lts
-use Rattle.shapes.proofs.one_less.Reads as one-less-reads
-use Rattle.words.proofs.word.Reads as word-reads
 
 -- src/lib.rt:135:22
 enum-told : tie.Need-enum-told

@@ -11,13 +11,6 @@ use Rattle.shapes.proofs.Judged.{judged-end, judged-over, judged-past, 
 use borrow.Author.Needs.{needs}
 use Rattle.shapes.proofs.line_ended.Statement.{statement}
 use Rattle.shapes.proofs.line_ended.Tie as tie
-use Rattle.shapes.proofs.line_ended.Reads as reads
-use Rattle.shapes.proofs.line_ended.Lts as lts
-use Rattle.shapes.proofs.broken_at.Reads as broken-at-reads
-use Rattle.shapes.proofs.bytes_in.Reads as bytes-in-reads
-use Rattle.shapes.proofs.expected.Reads as expected-reads
-use Rattle.shapes.proofs.is_frame.Reads as is-frame-reads
-use Rattle.shapes.proofs.next_line.Reads as next-line-reads
 
 -- the sort that is due
 abbrev sort : tie.After-known-told → Sort

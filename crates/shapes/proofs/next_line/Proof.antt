@@ -1,10 +1,6 @@
 use borrow.Author.Needs.{needs}
 use Rattle.shapes.proofs.next_line.Statement.{statement}
 use Rattle.shapes.proofs.next_line.Tie as tie
-use Rattle.shapes.proofs.next_line.Reads as reads
-use Rattle.shapes.proofs.next_line.Lts as lts
-use Rattle.shapes.proofs.left_after.Reads as left-after-reads
-use Rattle.shapes.proofs.number_after.Reads as number-after-reads
 
 -- src/lib.rt:233:9
 left-after-requires : tie.Need-left-after-requires

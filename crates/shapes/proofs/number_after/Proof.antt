@@ -3,8 +3,6 @@ use Rattle.shapes.specs.Walk.{mostLines, numberAfter}
 use borrow.Author.Needs.{needs}
 use Rattle.shapes.proofs.number_after.Statement.{statement}
 use Rattle.shapes.proofs.number_after.Tie as tie
-use Rattle.shapes.proofs.number_after.Reads as reads
-use Rattle.shapes.proofs.number_after.Lts as lts
 
 -- src/lib.rt:187:16
 add-result : tie.Need-add-result

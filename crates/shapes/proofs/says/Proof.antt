@@ -3,10 +3,6 @@ use borrow.Author.Tests.{eq-eqb, ne-eqb}
 use borrow.Author.Needs.{needs}
 use Rattle.shapes.proofs.says.Statement.{statement}
 use Rattle.shapes.proofs.says.Tie as tie
-use Rattle.shapes.proofs.says.Reads as reads
-use Rattle.shapes.proofs.says.Lts as lts
-use Rattle.shapes.proofs.edition_ok.Reads as edition-ok-reads
-use Rattle.shapes.proofs.number_of.Reads as number-of-reads
 
 -- src/lib.rt:99:8
 array-read-if1 : tie.Need-array-read-if1

@@ -12,9 +12,6 @@ use Rattle.shapes.proofs.Told.{after-feed, after-kept, after-full, brok
 use Rattle.shapes.proofs.Judged.{ended-slots}
 use Rattle.shapes.proofs.walk.Statement.{statement}
 use Rattle.shapes.proofs.walk.Tie as tie
-use Rattle.shapes.proofs.walk.Reads as reads
-use Rattle.shapes.proofs.walk.Lts as lts
-use Rattle.shapes.proofs.line_ended.Reads as line-ended-reads
 
 -- nothing of the piece is left
 ended : (w q : Shape) (piece : List ℕ) (i : ℕ) → i ≡ length piece → walked q (drop i piece) ≡ w → q ≡ w
