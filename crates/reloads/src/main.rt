@@ -1,12 +1,13 @@
 // Saved texts, loaded and saved again: standard input has the cases. A line that begins with # is only written; one that begins with =
 // names a case, and its saved text is all that follows up to the next such line, without its last line feed where it begins with =-.
-// Each is written with its answer line, and a record that was loaded with whether it saves to that very text. `stdout` has what
-// docs/SAVED.md gives, worked out by hand.
+// Each is written with its answer line, a record that was loaded with whether it saves to that very text, and a refusal with whether the
+// record that was given is kept. `stdout` has what docs/SAVED.md gives, worked out by hand.
 use cluster::Cluster;
 use libc::STDIN_FILENO;
 use libc::STDOUT_FILENO;
 use saved::Saved;
 use steps::Answer;
+use steps::Step;
 
 // A line, so that each answer stands by itself.
 fn say(words: &[u8]) {
@@ -22,32 +23,48 @@ fn wrote_same(out: &[u8], n: usize, text: &[u8]) -> bool {
     loads::same_text(&out[..n], text)
 }
 
-// The record is saved again, because loading must give back the one record that has this text.
-fn saved_again(c: Cluster, text: &[u8]) {
+// Whether the record saves to the text, because that tells it from every other.
+fn saves_to(c: Cluster, text: &[u8]) -> bool {
     let mut out = [0; saved::LONGEST];
     let s = saved::save(c, &mut out);
     let Saved::Text(n) = s else {
-        say(b"other");
-        return;
+        return false;
     };
-    if wrote_same(&out, n, text) {
-        say(b"same");
-    } else {
-        say(b"other");
-    }
+    wrote_same(&out, n, text)
 }
 
-// A refused text has no record to save.
+// Every text is loaded into this record, so that a refusal can be seen to give it back: two servers after a start.
+fn given() -> Cluster {
+    let o = rules::step(cluster::zero_cluster(), Step::Start(2));
+    o.cluster
+}
+
+fn is_given(c: Cluster) -> bool {
+    saves_to(
+        c,
+        b"000102\n0100000000000000000000000100000000\n0100000000000000000000000100000000\n",
+    )
+}
+
 fn tried(text: &[u8]) {
-    let o = loads::load(cluster::zero_cluster(), text);
+    let o = loads::load(given(), text);
     let c = o.cluster;
     let a = o.answer;
     let chars = answers::write_answer(a);
     say(&chars);
     let Answer::Done = a else {
+        if is_given(c) {
+            say(b"kept");
+        } else {
+            say(b"lost");
+        }
         return;
     };
-    saved_again(c, text);
+    if saves_to(c, text) {
+        say(b"same");
+    } else {
+        say(b"other");
+    }
 }
 
 // Where the first line ends, as a case's name ends there.
