@@ -11,6 +11,8 @@ use lib.Signed.{ltZ}
 use mir.Syntax.{w64}
 use mir.Val.{SFits, toZ, ofZ}
 use mir.ValLaws.{toZ-ofZ}
+use types.Run.{OneOf, miss}
+use denote.Enum.Declared.{tagOf}
 use borrow.Author.Tests.{ne-eqb, ltb-true, le-ltb}
 use Rattle.io.specs.Counts.{clamped}
 use Rattle.base.proofs.Bools.{not-both}
@@ -22,9 +24,11 @@ use Rattle.replay.specs.Texts.{answers, leaves}
 use Rattle.replay.specs.Pieces.{answerLine, begun, runs, says, together, runsAll, saysAll, placed, fedOf, fedOut, isEmpty, ending, ended, finishOf}
 use Rattle.replay.proofs.Whole.{any-pieces, any-pieces-record}
 use Rattle.replay.proofs.Parts.{fed-all, fed-all-out}
+use Rattle.shell.specs.declared.End.{End}
 use Rattle.shell.specs.declared.End.the-variants.{More, Input, CannotRead, CannotWrite}
 use Rattle.shell.specs.declared.Drained.{Drained}
 use Rattle.shell.specs.declared.saves.Led.{Led}
+use Rattle.shell.proofs.End.{the-type}
 use Rattle.shell.specs.Loop.{endOf, given, mostTurns, Poured, Turned, Drains, Answered}
 
 pub poured : (s : Session) (piece out out′ : List ℕ) (f : Fed) (wrote : Bool) → answerLine * length piece ≤ length out
@@ -34,6 +38,13 @@ poured s piece out out′ f wrote h e o = (
   record { session = fed-all s piece (length out) f h e .session; wrote = wrote; end = refl },
   o ∙ fed-all-out s piece out h,
 )
+
+-- the places of the ends at which it is over
+abbrev ends : List ℕ
+ends = 1 ∷ 2 ∷ 3 ∷ []
+
+pub over : (e : End) → OneOf ends (tagOf the-type e) → e ≡ More → ⊥
+over e h m = miss ends 0 tt (subst (λ (x : End). OneOf ends (tagOf the-type x)) m h)
 
 -- what the tests of a signed number say of it
 pub signed-is : (z : ℤ) (n : ℕ) → SFits w64 z → ofZ w64 z ≡ n → z ≡ toZ w64 n

@@ -1,6 +1,6 @@
 // A saved record, read from one descriptor and written to another. The launcher opens both.
 ghost use mathlib.Core.Path.{_≡_};
-ghost use Rattle.shell.specs.Saving.{turnWalked, WalksOn};
+ghost use Rattle.shell.specs.Saving.{turnWalked, WalksOn, notLed, ledOf, Loads};
 use crate::End;
 use crate::PIECE;
 use crate::say;
@@ -8,8 +8,6 @@ use cluster::Cluster;
 use saved::Saved;
 use shapes::Shape;
 use steps::Answer;
-use steps::Outcome;
-use steps::Refusal;
 
 const LOAD_FILENO: i32 = 5;
 
@@ -81,16 +79,6 @@ fn walk_on(s: Shape) -> Walked
     w
 }
 
-// What a text that is longer than any saved form is refused with.
-fn long_refused(shape: Shape) -> Outcome {
-    let c = cluster::zero_cluster();
-    if shapes::is_shaped(shape) {
-        steps::refuse_all(c, Refusal::IllFormed)
-    } else {
-        steps::refuse_all(c, Refusal::NotAFrame)
-    }
-}
-
 // Says why a text is refused: its shape, or what of it no record has.
 fn explain(text: &[u8], shape: Shape) {
     if !shapes::is_shaped(shape) {
@@ -105,20 +93,25 @@ fn explain(text: &[u8], shape: Shape) {
     say::ill_formed(d.count, loads::first_bad(d));
 }
 
-fn not_led() -> Led {
+fn not_led() -> Led
+    ensures { λ r. ⌜ r ≡ notLed ⌝ }
+{
     Led {
         cluster: cluster::zero_cluster(),
         well: false,
     }
 }
 
-// The record that a text loads, which is here as far as a saved form can be long and whose shape is told to its end.
-fn loaded(text: &[u8], shape: Shape) -> Led {
-    let o = if saved::LONGEST < text.len() {
-        long_refused(shape)
-    } else {
-        loads::load(cluster::zero_cluster(), text)
-    };
+// The record that a text loads, or why it loads none. One that is longer than any saved form is here as far as that, and its shape is told
+// to its end.
+fn loaded(text: &[u8], shape: Shape) -> Led
+    ensures { λ r. ⌜ r ≡ ledOf (now (text .entry)) ⌝ }
+{
+    if saved::LONGEST < text.len() {
+        explain(text, shape);
+        return not_led();
+    }
+    let o = loads::load(cluster::zero_cluster(), text);
     let c = o.cluster;
     let answer = o.answer;
     let Answer::Done = answer else {
@@ -132,7 +125,9 @@ fn loaded(text: &[u8], shape: Shape) -> Led {
 }
 
 // The record that was saved. The text is kept as far as a saved form can be long; reading on tells whether that was all.
-pub(crate) fn load() -> Led {
+pub(crate) fn load() -> Led
+    ensures { λ r. ⌜ Loads r ⌝ }
+{
     let mut kept = [0; KEPT];
     let n = io::read_full(LOAD_FILENO, &mut kept);
     let w = walk_on(shapes::walk(shapes::begin(), &kept[..n]));

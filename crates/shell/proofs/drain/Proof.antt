@@ -1,25 +1,11 @@
 -- `shell::drain` meets its contract. Its loop keeps the pieces that have gone through the session. Assumes nothing.
-use Prim.Native.Nat.{ℕ}
-use mathlib.Core.List.{List, [], _∷_}
-use types.Run.{OneOf, miss}
-use denote.Enum.Declared.{tagOf}
-use Rattle.shell.specs.declared.End.{End}
-use Rattle.shell.specs.declared.End.the-variants.{More}
-use Rattle.shell.proofs.End.{the-type}
 use native.Mathlib.Omega.{arith}
 use lib.ListN.{length}
-use mathlib.Core.Path.{_≡_, refl, subst}
+use mathlib.Core.Path.{_≡_, refl}
 use borrow.Author.Needs.{needs}
-use Rattle.shell.proofs.Loop.{Going, begins, goes-on, stops, gives-up-at}
+use Rattle.shell.proofs.Loop.{over, Going, begins, goes-on, stops, gives-up-at}
 use Rattle.shell.proofs.drain.Statement.{statement}
 use Rattle.shell.proofs.drain.Tie as tie
-
--- the places of the ends at which it is over
-abbrev ends : List ℕ
-ends = 1 ∷ 2 ∷ 3 ∷ []
-
-over : (e : End) → OneOf ends (tagOf the-type e) → e ≡ More → ⊥
-over e h m = miss ends 0 tt (subst (λ (x : End). OneOf ends (tagOf the-type x)) m h)
 
 abbrev Inv-loop : tie.InvT-loop
 Inv-loop out₀ d₀ turns₀ out d turns = (length out ≡ length out₀) × Going d₀ d turns

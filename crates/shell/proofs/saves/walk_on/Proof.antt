@@ -1,23 +1,9 @@
 -- `shell::saves::walk_on` meets its contract. Its loop keeps the pieces that the shape is walked through. Assumes nothing.
-use Prim.Native.Nat.{ℕ}
-use mathlib.Core.Path.{_≡_, subst}
-use mathlib.Core.List.{List, [], _∷_}
-use types.Run.{OneOf, miss}
-use denote.Enum.Declared.{tagOf}
-use Rattle.shell.specs.declared.End.{End}
-use Rattle.shell.specs.declared.End.the-variants.{More}
-use Rattle.shell.proofs.End.{the-type}
+use Rattle.shell.proofs.Loop.{over}
 use Rattle.shell.proofs.Saving.{Walking, walk-begins, walk-goes-on, walk-stops, walk-gives-up}
 use borrow.Author.Needs.{needs}
 use Rattle.shell.proofs.saves.walk_on.Statement.{statement}
 use Rattle.shell.proofs.saves.walk_on.Tie as tie
-
--- the places of the ends at which it is over
-abbrev ends : List ℕ
-ends = 1 ∷ 2 ∷ 3 ∷ []
-
-over : (e : End) → OneOf ends (tagOf the-type e) → e ≡ More → ⊥
-over e h m = miss ends 0 tt (subst (λ (x : End). OneOf ends (tagOf the-type x)) m h)
 
 abbrev Inv-loop : tie.InvT-loop
 Inv-loop w₀ turns₀ w turns = Walking (w₀ .shape) w turns
