@@ -25,7 +25,7 @@ pub const ANSWER_CHARS: usize = hex::CHARS * ANSWER_BYTES;
 // The first byte of an answer that is no refusal.
 const DONE: u8 = 0;
 
-const REFUSALS: usize = 10;
+const REFUSALS: usize = 11;
 
 // The refusals in the order of their numbers, from 1.
 const IN_ORDER: [Refusal; REFUSALS] = [
@@ -39,6 +39,7 @@ const IN_ORDER: [Refusal; REFUSALS] = [
     Refusal::NotYet,
     Refusal::BelowCommitPoint,
     Refusal::NoSuchEntry,
+    Refusal::ClockAhead,
 ];
 
 fn refusal_number(r: Refusal) -> u8
@@ -55,6 +56,7 @@ fn refusal_number(r: Refusal) -> u8
         Refusal::NotYet => 8,
         Refusal::BelowCommitPoint => 9,
         Refusal::NoSuchEntry => 10,
+        Refusal::ClockAhead => 11,
     }
 }
 

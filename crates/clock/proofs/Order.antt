@@ -1,4 +1,4 @@
--- Times are in a strict order that is total and transitive; the later of two is one of them and before neither. Assumes nothing.
+-- Times are in a strict order that is total and transitive; the later of two is one of them and before neither; (0,0) is never the later. Assumes nothing.
 use mathlib.Core.Path.{_≡_, refl}
 use mathlib.Core.Logic.{_⊎_, inl, inr}
 use mathlib.Core.Bool.{Bool, true, false, cond, _&&_, _||_}
@@ -8,7 +8,7 @@ use lib.Dec.{eqb, ltb}
 use borrow.Author.Tests.{ltb-true, ltb-false, eqb-true, eqb-false, lt-ltb, eq-eqb}
 use Rattle.base.proofs.Bools.{and-left, and-right, or-cases, not-both}
 use Rattle.clock.specs.declared.Time.{Time}
-use Rattle.clock.specs.Times.{isBefore, sameTime, laterOf}
+use Rattle.clock.specs.Times.{zeroTime, isBefore, sameTime, laterOf}
 
 -- s is before t, and s is not after t, as facts on their numbers
 pub record Before (s t : Time) : Type 0 where
@@ -131,13 +131,13 @@ before-total s t e f =
 
 -- the later of two is one of them, and before neither
 module _ (s t : Time) where
-  pub later-one : (laterOf s t ≡ s) ⊎ (laterOf s t ≡ t)
+  pub later-either : (P : Time → Type 0) → P s → P t → P (laterOf s t)
   unfolding laterOf
-  later-one = go (isBefore s t)
+  later-either P ps pt = go (isBefore s t)
     where
-      go : (b : Bool) → (cond b t s ≡ s) ⊎ (cond b t s ≡ t)
-      go true = inr refl
-      go false = inl refl
+      go : (b : Bool) → P (cond b t s)
+      go true = pt
+      go false = ps
 
   pub later-left : isBefore (laterOf s t) s ≡ false
   unfolding laterOf
@@ -154,3 +154,8 @@ module _ (s t : Time) where
       go : (b : Bool) → isBefore s t ≡ b → isBefore (cond b t s) t ≡ false
       go true e = before-itself t
       go false e = e
+
+-- no time is before (0,0)
+pub later-zero : (s : Time) → laterOf s zeroTime ≡ s
+unfolding laterOf
+later-zero s = rw (not-before-is zeroTime s (record { le = omega arith; eq = λ e. omega arith }))

@@ -26,7 +26,7 @@ stepsOf f =
     ∷ R.Step (Hears (f .a) (f .b))
     ∷ R.Step (Pulls (f .a) (f .b))
     ∷ R.Step (RollsBack (f .a) (f .b))
-    ∷ R.Step (Writes (f .a) (f .key) (f .number))
+    ∷ R.Step (Writes (f .a) (f .key) (f .number) (f .time))
     ∷ R.Step (Advances (f .a))
     ∷ R.Step (WallClock (f .a))
     ∷ R.Step (Restarts (f .a))

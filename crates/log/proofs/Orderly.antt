@@ -1,9 +1,9 @@
 -- A log that a well-formed record may hold, as facts: one for each clause of 01, and back. Assumes nothing.
 use mathlib.Core.Path.{_≡_, refl, ap, _∙_}
 use mathlib.Core.List.{List}
-use mathlib.Core.Bool.{true, _&&_, _||_}
+use mathlib.Core.Bool.{true, false, _&&_, _||_}
 use mathlib.Core.Logic.{_⊎_, inl, inr, ⊎-elim}
-use Prim.Native.Nat.{ℕ, zero, suc, _<_, _≤_}
+use Prim.Native.Nat.{ℕ, zero, suc, _+_, _-_, _<_, _≤_}
 use native.Mathlib.Omega.{arith}
 use lib.Dec.{eqb, ltb, leb}
 use lib.ListN.{length, getD, List·getD-eq-default}
@@ -12,9 +12,10 @@ use Rattle.base.proofs.Bools.{and-both, and-left, and-right, or-left, or-right,
 use Rattle.base.proofs.Every.{every-at, every-all}
 use Rattle.base.proofs.Facts.{lt-or-le}
 use Rattle.clock.specs.Times.{isBefore}
+use Rattle.clock.proofs.Order.{before-itself, before-not-after, not-after-trans}
 use Rattle.log.specs.declared.Entry.{Entry}
 use Rattle.log.specs.declared.Log.{Log}
-use Rattle.log.specs.Entries.{zeroEntry, sameEntry, entryAt}
+use Rattle.log.specs.Entries.{zeroEntry, sameEntry, entryAt, appliedTime}
 use Rattle.log.specs.Logs.{logLimit, live}
 use Rattle.log.specs.Order.{highestKey, noKey, writesSome, entryOk, follows, placeOk, inOrder, restZero, logOk}
 use Rattle.log.proofs.Equal.{sameEntry-eq, sameEntry-refl}
@@ -87,6 +88,15 @@ in-order {term} {es} o = every-all _ (length es) (λ i l. and-both _ _ (good-ent
     place : (i : ℕ) → i < length es → (eqb i 0 || (leb (entryAt es i .term) (entryAt es (suc i) .term) && isBefore (entryAt es i .time) (entryAt es (suc i) .time))) ≡ true
     place zero l = refl
     place (suc i) l = or-right (eqb (suc i) 0) _ (and-both _ _ (le-leb _ _ (o .terms (suc i) (omega arith) l)) (o .times (suc i) (omega arith) l))
+
+-- so no entry's time is after the last one's
+pub not-after-last : {term : ℕ} {es : List Entry} → Orderly term es → (n : ℕ) → 1 ≤ n → n ≤ length es → isBefore (appliedTime es) (entryAt es n .time) ≡ false
+not-after-last {term} {es} o n p l = go (length es - n) n p (omega arith)
+  where
+    -- k entries before the last
+    go : (k n : ℕ) → 1 ≤ n → k + n ≡ length es → isBefore (appliedTime es) (entryAt es n .time) ≡ false
+    go zero n p e = let q : n ≡ length es = omega arith in rw q (before-itself (appliedTime es))
+    go (suc k) n p e = not-after-trans _ _ _ (before-not-after _ _ (o .times n p (omega arith))) (go k (suc n) (omega arith) (omega arith))
 
 -- ---- the slots
 

@@ -19,7 +19,7 @@ use Rattle.steps.specs.Refusals.{Rules, decided}
 use Rattle.steps.specs.Answers.{refusing, refusingAll}
 use Rattle.singles.specs.StepsDown.{downRules}
 use Rattle.singles.specs.WallClock.{clockRules}
-use Rattle.singles.specs.Appends.{appendRules}
+use Rattle.singles.specs.WritesNothing.{nothingRules}
 use Rattle.singles.specs.Writes.{writeRules}
 use Rattle.singles.specs.LocalRead.{localRules}
 use Rattle.singles.specs.MajorityRead.{majorityRules}
@@ -78,7 +78,8 @@ place-does c (S.StepDown a) = alone-does c a (S.StepDown a) (decided-sends _ _ (
 place-does c (S.Hears a b) = apart-does c a b (S.Hears a b) refl ∙ core-hears c a b
 place-does c (S.Pulls a b) = refl
 place-does c (S.RollsBack a b) = refl
-place-does c (S.Writes a key value) = alone-does c a (S.Writes a key value) (decided-sends _ _ (writeRules (serverAt c a) key value) refl) ∙ core-writes c a key value
+place-does c (S.Writes a key value client) =
+    alone-does c a (S.Writes a key value client) (decided-sends _ _ (writeRules (serverAt c a) key value client) refl) ∙ core-writes c a key value client
 place-does c (S.Advances a) = refl
 place-does c (S.WallClock a) = alone-does c a (S.WallClock a) (decided-sends _ _ (clockRules (serverAt c a .head)) refl) ∙ core-clock c a
 place-does c (S.Restarts a) = alone-does c a (S.Restarts a) refl ∙ core-restarts c a
@@ -86,7 +87,7 @@ place-does c (S.LocalRead a key asked) = alone-does c a (S.LocalRead a key asked
 place-does c (S.MajorityRead a key asked) = alone-does c a (S.MajorityRead a key asked) (decided-sends _ _ (majorityRules (serverAt c a) key asked) refl) ∙ core-majority c a key asked
 place-does c (S.Acknowledged a k n term) = refl
 place-does c S.ClocksAgree = refl
-place-does c (S.WritesNothing a) = alone-does c a (S.WritesNothing a) (decided-sends _ _ (appendRules (serverAt c a)) refl) ∙ core-nothing c a
+place-does c (S.WritesNothing a) = alone-does c a (S.WritesNothing a) (decided-sends _ _ (nothingRules (serverAt c a)) refl) ∙ core-nothing c a
 place-does c (S.NewestRead a key n term) = alone-does c a (S.NewestRead a key n term) (decided-sends _ _ (newestRules (serverAt c a) key n term) refl) ∙ core-newest c a key n term
 place-does c (S.TakesReport a) = refl
 
@@ -137,7 +138,7 @@ place-names size (S.StepDown a) = alone-names size a (S.StepDown a)
 place-names size (S.Hears a b) = apart-names size a b (S.Hears a b)
 place-names size (S.Pulls a b) = tt
 place-names size (S.RollsBack a b) = tt
-place-names size (S.Writes a key value) = alone-names size a (S.Writes a key value)
+place-names size (S.Writes a key value client) = alone-names size a (S.Writes a key value client)
 place-names size (S.Advances a) = tt
 place-names size (S.WallClock a) = alone-names size a (S.WallClock a)
 place-names size (S.Restarts a) = alone-names size a (S.Restarts a)

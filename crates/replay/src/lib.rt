@@ -208,7 +208,7 @@ fn place(size: usize, s: Step) -> Plan
         Step::Hears(a, b) => plan_apart(size, a as usize, b as usize, s),
         Step::Pulls(_, _) => Plan::Record(s),
         Step::RollsBack(_, _) => Plan::Record(s),
-        Step::Writes(a, _, _) => plan_alone(size, a as usize, s),
+        Step::Writes(a, _, _, _) => plan_alone(size, a as usize, s),
         Step::Advances(_) => Plan::Record(s),
         Step::WallClock(a) => plan_alone(size, a as usize, s),
         Step::Restarts(a) => plan_alone(size, a as usize, s),

@@ -11,6 +11,7 @@ use Rattle.base.proofs.Every.{every-at}
 use Rattle.base.proofs.Greatest.{greatest-above, greatest-below}
 use Rattle.base.proofs.Highest.{highest-le}
 use Rattle.clock.specs.Times.{limit}
+use Rattle.clock.proofs.Order.{before-itself, later-left}
 use Rattle.log.specs.Logs.{lengthOf}
 use Rattle.log.specs.Order.{noKey}
 use Rattle.mail.specs.declared.Report.{Report}
@@ -44,6 +45,7 @@ use Rattle.rules.specs.Rules.{delivered, putBack, rowOf, rulesOf, doneOf
 use Rattle.rules.proofs.Outcomes.{step-done, StepDone, step-cases}
 use Rattle.rules.proofs.Others.{or-neither, voted-inside, voted-outside, clocked-counted, clocked-past}
 use Rattle.rules.proofs.Servers.{ServerSound, mail-set, sourced-sound, report-used, report-fits, taken-sound, pulled-some, rolled-some, down-sound, wall-sound, restarted-sound, committed-sound, voted-sound, heard-sound, pulled-sound, rolled-sound, appended-sound}
+use Rattle.rules.proofs.Ranges.{fits-later}
 use Rattle.rules.proofs.Records.{Sound, counted-sound, replaced-sound, changed-sound}
 
 -- ---- what is done keeps the record
@@ -167,7 +169,9 @@ done-sound c (Pulls a b) h f k =
     sent-sound (h refl) a b _ (k .0) (k .1 .0) (k .1 .1 .0) (λ x y. (pulled-sound x y (k .1 .1 .1), pulled-some x y (k .1 .1 .1)))
 done-sound c (RollsBack a b) h f k =
     sent-sound (h refl) a b _ (k .0) (k .1 .0) (k .1 .1 .0) (λ x y. (rolled-sound x y (k .1 .1 .1), rolled-some x y (k .1 .1 .1)))
-done-sound c (Writes a key value) h f k = put (h refl) a _ (k .0) (λ x. appended-sound x key value (f .key) (f .number) (inl (leb-true _ _ (k .1 .0), leb-true _ _ (k .1 .1 .0))) (k .1 .1 .1))
+done-sound c (Writes a key value client) h f k =
+    put (h refl) a _ (k .0) (λ x. appended-sound x key value (f .key) (f .number) (inl (leb-true _ _ (k .1 .0), leb-true _ _ (k .1 .1 .0)))
+    _ (fits-later _ client (x .fits .head .time) (f .time)) (later-left (serverAt c a .head .time) client) (k .1 .1 .1 .1))
 done-sound c (Advances a) h f k = advanced-sound (h refl) a (k .0)
 done-sound c (WallClock a) h f k = put (h refl) a _ (k .0) (λ x. wall-sound x _ (omega arith) (omega (arith, ltb-true (serverAt c a .head .wall) limit (k .1 .0))))
 done-sound c (Restarts a) h f k = put (h refl) a _ (k .0) restarted-sound
@@ -175,7 +179,7 @@ done-sound c (LocalRead a key asked) h f k = put (h refl) a _ (k .0) (λ x. x)
 done-sound c (MajorityRead a key asked) h f k = put (h refl) a _ (k .0) (λ x. x)
 done-sound c (Acknowledged a n position term) h f k = h refl
 done-sound c ClocksAgree h f k = agreed-sound (h refl)
-done-sound c (WritesNothing a) h f k = put (h refl) a _ (k .0) (λ x. appended-sound x noKey 0 (omega arith) (omega arith) (inr (refl, refl)) (k .1))
+done-sound c (WritesNothing a) h f k = put (h refl) a _ (k .0) (λ x. appended-sound x noKey 0 (omega arith) (omega arith) (inr (refl, refl)) _ (x .fits .head .time) (before-itself (serverAt c a .head .time)) (k .1))
 done-sound c (NewestRead a key n term) h f k = put (h refl) a _ (k .0) (λ x. x)
 done-sound c (TakesReport a) h f k = took-report (h refl) a (counted (h refl) a (k .0)) (k .1)
 

@@ -4,6 +4,7 @@ pub mod Others
 pub mod Lists
 pub mod Logs
 pub mod Ranges
+pub mod Appends
 pub mod Servers
 pub mod Records
 pub mod Keeps
@@ -11,3 +12,4 @@ pub mod Parts
 pub mod Results
 pub mod Shut
 pub mod Ranks
+pub mod Stamped

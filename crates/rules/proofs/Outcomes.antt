@@ -70,7 +70,7 @@ done-not-refused c (StepDown a) = refl
 done-not-refused c (Hears a b) = refl
 done-not-refused c (Pulls a b) = refl
 done-not-refused c (RollsBack a b) = refl
-done-not-refused c (Writes a key value) = refl
+done-not-refused c (Writes a key value client) = refl
 done-not-refused c (Advances a) = refl
 done-not-refused c (WallClock a) = refl
 done-not-refused c (Restarts a) = refl
@@ -100,3 +100,24 @@ refused-why c s r e =
     let q : _≡_ {A = Answer} (A.Refused (d .refusal)) (A.Refused r) = sym (ap (λ (o : Outcome). o .answer) (d .is)) ∙ e in
     let z : d .refusal ≡ r = cc in
     subst (Why c s) z (d .why)
+
+-- ---- an answer that is no refusal
+
+-- a step that is done and answers so, with all that let it be done
+pub record DoneWith (c : Cluster) (s : Step) (a : Answer) : Type 0 where
+  pub seen : (isStart s || wellFormed c) ≡ true
+  pub clear : Clear (rulesOf c s)
+  pub is : stepOf c s ≡ doneOf c s
+  pub answers : doneOf c s .answer ≡ a
+
+pub answered-done : (c : Cluster) (s : Step) {a : Answer} → stepOf c s .answer ≡ a → isRefused a ≡ false → DoneWith c s a
+answered-done c s {a} e told = ⊎-elim done (λ d. absurd (refused d)) (step-cases c s)
+  where
+    as-told : {o : Outcome} → stepOf c s ≡ o → o .answer ≡ a
+    as-told q = sym (ap (λ (o : Outcome). o .answer) q) ∙ e
+
+    done : StepDone c s → DoneWith c s a
+    done d = record { seen = d .seen; clear = d .clear; is = d .is; answers = as-told (d .is) }
+
+    refused : StepRefused c s → ⊥
+    refused d = not-both (isRefused a) (ap isRefused (sym (as-told (d .is)))) told

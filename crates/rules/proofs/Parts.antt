@@ -19,9 +19,8 @@ use Rattle.pairs.specs.Pulls.{pullRules, pullDone}
 use Rattle.pairs.specs.RollsBack.{rollRules, rollDone}
 use Rattle.singles.specs.StepsDown.{downRules, downDone}
 use Rattle.singles.specs.WallClock.{clockRules, clockDone}
-use Rattle.singles.specs.Appends.{appendRules, appendDone}
-use Rattle.singles.specs.Writes.{writeRules}
-use Rattle.singles.specs.WritesNothing.{nothingDone}
+use Rattle.singles.specs.Writes.{writeRules, writeDone}
+use Rattle.singles.specs.WritesNothing.{nothingRules, nothingDone}
 use Rattle.singles.specs.LocalRead.{localRules, localDone}
 use Rattle.singles.specs.MajorityRead.{majorityRules, majorityDone}
 use Rattle.singles.specs.NewestRead.{newestRules, newestDone}
@@ -46,13 +45,13 @@ module _ (c : Cluster) (a : ℕ) where
   unfolding singleOf oneOf coreOf rowOf
   core-down = in-place _ _ (placed c a (downDone (serverAt c a)) (downRules (serverAt c a .head)))
 
-  pub core-writes : (key value : ℕ) → singleOf c a (Writes a key value) ≡ coreOf c (Writes a key value)
+  pub core-writes : (key value : ℕ) (client : Time) → singleOf c a (Writes a key value client) ≡ coreOf c (Writes a key value client)
   unfolding singleOf oneOf coreOf rowOf
-  core-writes key value = in-place _ _ (placed c a (appendDone (serverAt c a) key value) (writeRules (serverAt c a) key value))
+  core-writes key value client = in-place _ _ (placed c a (writeDone (serverAt c a) key value client) (writeRules (serverAt c a) key value client))
 
   pub core-nothing : singleOf c a (WritesNothing a) ≡ coreOf c (WritesNothing a)
   unfolding singleOf oneOf coreOf rowOf
-  core-nothing = in-place _ _ (placed c a (nothingDone (serverAt c a)) (appendRules (serverAt c a)))
+  core-nothing = in-place _ _ (placed c a (nothingDone (serverAt c a)) (nothingRules (serverAt c a)))
 
   pub core-clock : singleOf c a (WallClock a) ≡ coreOf c (WallClock a)
   unfolding singleOf oneOf coreOf rowOf

@@ -1,20 +1,20 @@
 -- What makes a time or a log of ones that fit gives one that fits. Assumes nothing.
-use mathlib.Core.Path.{_≡_, refl, _∙_, subst}
+use mathlib.Core.Path.{_≡_, refl, _∙_}
 use mathlib.Core.Bool.{Bool, true, false, cond}
 use mathlib.Core.Logic.{⊎-elim}
 use Prim.Native.Nat.{ℕ, zero, suc, _+_, _<_, _≤_}
 use native.Mathlib.Omega.{arith}
-use lib.Dec.{ltb, leb}
+use lib.Dec.{ltb}
 use lib.ListN.{length, set, length-set, length-take}
 use borrow.Author.Tests.{ltb-true}
 use Rattle.base.proofs.Facts.{lt-or-le}
 use Rattle.base.proofs.Joined.{length-joined, joined-low, joined-high}
 use Rattle.clock.specs.declared.Time.{Time}
-use Rattle.clock.specs.declared.Ticked.{Ticked}
-use Rattle.clock.specs.declared.Ticked.the-variants.{To, AtLimit}
+use Rattle.clock.specs.declared.Ticked.the-variants.{To}
 use Rattle.clock.specs.Times.{limit, laterOf, tickOf}
 use Rattle.clock.specs.Ranges.{FitsTime}
-use Rattle.clock.proofs.Order.{later-one}
+use Rattle.clock.proofs.Order.{later-either}
+use Rattle.clock.proofs.Ticks.{TickIs, grows, jumps, tick-is}
 use Rattle.log.specs.declared.Entry.{Entry}
 use Rattle.log.specs.declared.Log.{Log}
 use Rattle.log.specs.Entries.{zeroEntry, entryAt}
@@ -26,22 +26,15 @@ use Rattle.rules.proofs.Lists.{all-set}
 -- ---- times
 
 pub fits-later : (s t : Time) → FitsTime s → FitsTime t → FitsTime (laterOf s t)
-fits-later s t fs ft = ⊎-elim (λ e. rw e fs) (λ e. rw e ft) (later-one s t)
+fits-later s t fs ft = later-either s t FitsTime fs ft
 
 -- l grows only below its limit, and a wall clock fits
 pub fits-tick : (wall : ℕ) (t u : Time) → wall ≤ limit → FitsTime t → tickOf wall t ≡ To u → FitsTime u
-unfolding tickOf
-fits-tick wall t u w f e = go (leb wall (t .p)) (ltb (t .l) limit) refl e
+fits-tick wall t u w f e = go (tick-is wall t u e)
   where
-    from : (v : Time) → _≡_ {A = Ticked} (To v) (To u) → FitsTime v → FitsTime u
-    from v q h = let z : v ≡ u = cc in subst FitsTime z h
-
-    go : (a b : Bool) → ltb (t .l) limit ≡ b
-        → cond a (cond b (To (record { p = t .p; l = t .l + 1 })) AtLimit) (To (record { p = wall; l = 0 })) ≡ To u → FitsTime u
-    go true true h q = let k = ltb-true (t .l) limit h in from _ q (record { p = f .p; l = omega arith })
-    go true false h q = let z : _≡_ {A = ℕ} 0 1 = cc in absurd (omega arith)
-    go false true h q = from _ q (record { p = w; l = omega arith })
-    go false false h q = from _ q (record { p = w; l = omega arith })
+    go : {u : Time} → TickIs wall t u → FitsTime u
+    go (grows h k) = record { p = f .p; l = omega arith }
+    go (jumps h) = record { p = w; l = omega arith }
 
 -- ---- logs
 

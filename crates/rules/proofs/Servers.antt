@@ -2,7 +2,7 @@
 use mathlib.Core.Path.{_≡_, refl, ap, sym, _∙_, subst}
 use mathlib.Core.Bool.{Bool, true, false, cond, _&&_, _||_}
 use mathlib.Core.Logic.{_≢_, ⊎-elim}
-use mathlib.Core.List.{List, [], _∷_, _++_}
+use mathlib.Core.List.{List}
 use Prim.Native.Nat.{ℕ, _+_, _<_, _≤_, max}
 use native.Mathlib.Numerals.{add-one}
 use native.Mathlib.Omega.{arith}
@@ -12,24 +12,21 @@ use borrow.Author.Tests.{ltb-true, leb-true, eqb-true}
 use Rattle.base.proofs.Bools.{and-left, and-right, or-cases, not-both}
 use Rattle.base.specs.Numbers.{byte}
 use Rattle.clock.specs.declared.Time.{Time}
-use Rattle.clock.specs.declared.Ticked.{Ticked}
-use Rattle.clock.specs.declared.Ticked.the-variants.{To, AtLimit}
-use Rattle.clock.specs.Times.{limit, isBefore, tickOf}
+use Rattle.clock.specs.Times.{limit, isBefore}
 use Rattle.clock.specs.Ranges.{FitsTime}
-use Rattle.clock.proofs.Order.{before-itself, then-before, not-after-trans, later-left, later-right}
-use Rattle.clock.proofs.Ticks.{tick-after}
+use Rattle.clock.proofs.Order.{before-itself, not-after-trans, later-left, later-right}
 use Rattle.log.specs.declared.Entry.{Entry}
 use Rattle.log.specs.declared.Log.{Log}
 use Rattle.base.proofs.Facts.{lt-or-le}
 use Rattle.log.specs.Entries.{entryAt, lastTerm, appliedTime, equalAt}
 use Rattle.log.proofs.Live.{entryAt-zero}
-use Rattle.log.specs.Logs.{logLimit, live, lengthOf, appended, joined}
-use Rattle.log.specs.Ranges.{FitsEntry, FitsLog}
+use Rattle.log.specs.Logs.{live, lengthOf, appended, joined}
+use Rattle.log.specs.Ranges.{FitsLog}
 use Rattle.log.proofs.Common.{common-le, rolled-is}
 use Rattle.log.proofs.Equal.{equal-at}
-use Rattle.log.proofs.Orderly.{Writing, EntryGood, LogGood}
-use Rattle.log.proofs.Positions.{length-more, last-more, last-joined}
-use Rattle.log.proofs.Tidy.{tidy-length, live-appended, tidy-appended, live-joined}
+use Rattle.log.proofs.Orderly.{Writing, LogGood}
+use Rattle.log.proofs.Positions.{length-more, last-joined}
+use Rattle.log.proofs.Tidy.{tidy-length, tidy-appended, live-joined}
 use Rattle.cluster.specs.declared.Head.{Head}
 use Rattle.cluster.specs.declared.Server.{Server}
 use Rattle.cluster.specs.Ranges.{FitsServer}
@@ -51,8 +48,9 @@ use Rattle.pairs.specs.RollsBack.{common, rollRules, rolledOf}
 use Rattle.pairs.specs.Reports.{reportOf}
 use Rattle.singles.specs.TakesReport.{takeRules, takeDone}
 use Rattle.singles.specs.Restarts.{restartedOf}
-use Rattle.singles.specs.Appends.{ticks, tickTime, appendRules, newEntry, stampedOf}
+use Rattle.singles.specs.Appends.{appendRules, newEntry, stampedOf}
 use Rattle.counts.specs.Advances.{committedOf}
+use Rattle.rules.proofs.Appends.{stampFrom, ticked, stamp-after, room, live-more, applied-more}
 use Rattle.rules.proofs.Others.{officeOf, wallOf}
 use Rattle.rules.proofs.Logs.{log-raised, appended-good, joined-good}
 use Rattle.rules.proofs.Ranges.{fits-later, fits-tick, fits-entry, fits-appended, fits-joined}
@@ -230,56 +228,41 @@ module _ {n i j : ℕ} {s t : Server} (h : ServerSound n i s) (k : ServerSound n
           let z = ap (λ (e : Entry). e .term) (entryAt-zero (live (t .log)) (lengthOf (t .log)) (omega arith)) in
           absurd (omega (arith, ltb-true (lastTerm (live (s .log))) (lastTerm (live (t .log))) (c .1 .1 .0), z))
 
--- ---- an entry that is appended
+-- ---- an entry that is appended, at a tick from a time that is not before the cluster time
 
-pub ticked-to : (k : Ticked) → ticks k ≡ true → k ≡ To (tickTime k)
-ticked-to (To t) e = refl
-ticked-to AtLimit e = not-both false e refl
+module _ {n i : ℕ} {s : Server} (h : ServerSound n i s) (key value : ℕ) (kept : key < byte) (small : value ≤ limit) (w : Writing key value) (from : Time) (fits : FitsTime from)
+    (reached : isBefore from (s .head .time) ≡ false) (c : Clear (appendRules s from)) where
+  abbrev new : Entry
+  new = newEntry s key value (stampFrom s from)
 
-module _ {n i : ℕ} {s : Server} (h : ServerSound n i s) (key value : ℕ) (kept : key < byte) (small : value ≤ limit) (w : Writing key value) (c : Clear (appendRules s)) where
-  -- the new time is after the cluster time, which is not before the applied time
-  stamped-at : (u : Time) → tickOf (s .head .wall) (s .head .time) ≡ To u → ServerSound n i (stampedOf s key value u)
+  time-fits : FitsTime (stampFrom s from)
+  time-fits = fits-tick (s .head .wall) from _ (h .fits .head .wall) fits (ticked s from c)
+
+  longer : s .log .len < appended (s .log) new .len
+  longer =
+      let t = h .good .log .tidy in
+      omega (
+        arith,
+        tidy-length t,
+        tidy-length (tidy-appended t new (room s from c t)),
+        ap (λ (es : List Entry). length es) (live-more s from c t new),
+        length-more (live (s .log)) new,
+      )
+
+  -- the start is not before the cluster time, which is not before the applied time
+  pub appended-sound : ServerSound n i (stampedOf s key value (stampFrom s from))
   unfolding stampedOf
-  stamped-at u tick =
+  appended-sound =
       record {
-        fits = fits-log (fits-head (h .fits) (record { term = h .fits .head .term; commit = h .fits .head .commit; wall = h .fits .head .wall; time = time-fits })) (fits-appended (h .fits .log) entry-fits);
+        fits = fits-log (fits-head (h .fits) (record { term = h .fits .head .term; commit = h .fits .head .commit; wall = h .fits .head .wall; time = time-fits }))
+            (fits-appended (h .fits .log) (record { term = h .fits .head .term; key = kept; value = small; time = time-fits }));
         good = record {
-          log = appended-good (h .good .log) entry-good (omega arith) (then-before _ (s .head .time) u (h .good .last-time) (tick-after (s .head .wall) (s .head .time) u tick)) room;
-          last-time = rw last (before-itself u);
+          log = appended-good (h .good .log) (record { from-one = h .good .primary-term (c .0); not-above = omega arith; writes = w }) (omega arith)
+              (stamp-after s from c _ (not-after-trans _ (s .head .time) from (h .good .last-time) reached)) (room s from c (h .good .log .tidy));
+          last-time = rw (applied-more s from c (h .good .log .tidy) new) (before-itself (stampFrom s from));
           commit-point = omega (arith, longer, h .good .commit-point);
           wall-clock = h .good .wall-clock;
           primary-term = h .good .primary-term;
         };
         mailed = h .mailed;
       }
-    where
-      room : s .log .len < logLimit
-      room = omega (arith, ltb-true (lengthOf (s .log)) logLimit (c .1 .0), tidy-length (h .good .log .tidy))
-
-      time-fits : FitsTime u
-      time-fits = fits-tick (s .head .wall) (s .head .time) u (h .fits .head .wall) (h .fits .head .time) tick
-
-      entry-fits : FitsEntry (newEntry s key value u)
-      entry-fits = record { term = h .fits .head .term; key = kept; value = small; time = time-fits }
-
-      entry-good : EntryGood (s .head .term) (newEntry s key value u)
-      entry-good = record { from-one = h .good .primary-term (c .0); not-above = omega arith; writes = w }
-
-      live-is : live (appended (s .log) (newEntry s key value u)) ≡ live (s .log) ++ (newEntry s key value u ∷ [])
-      live-is = live-appended (h .good .log .tidy) (newEntry s key value u) room
-
-      last : appliedTime (live (appended (s .log) (newEntry s key value u))) ≡ u
-      last = ap (λ (es : List Entry). appliedTime es) live-is ∙ ap (λ (e : Entry). e .time) (last-more (live (s .log)) (newEntry s key value u))
-
-      longer : s .log .len < appended (s .log) (newEntry s key value u) .len
-      longer =
-          omega (
-            arith,
-            tidy-length (h .good .log .tidy),
-            tidy-length (tidy-appended (h .good .log .tidy) (newEntry s key value u) room),
-            ap (λ (es : List Entry). length es) live-is,
-            length-more (live (s .log)) (newEntry s key value u),
-          )
-
-  pub appended-sound : ServerSound n i (stampedOf s key value (tickTime (tickOf (s .head .wall) (s .head .time))))
-  appended-sound = stamped-at _ (ticked-to (tickOf (s .head .wall) (s .head .time)) (c .1 .1 .0))

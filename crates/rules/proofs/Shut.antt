@@ -9,7 +9,7 @@ use Rattle.base.proofs.Bools.{and-left}
 use Rattle.base.specs.Numbers.{every, count, highest}
 use Rattle.base.specs.Lists.{eachFrom}
 use Rattle.clock.specs.declared.Time.{Time}
-use Rattle.clock.specs.Times.{isBefore, sameTime, tickOf}
+use Rattle.clock.specs.Times.{zeroTime, isBefore, sameTime, laterOf, tickOf}
 use Rattle.log.specs.Entries.{sameEntry, entryAt, latestValue}
 use Rattle.log.specs.Logs.{appended}
 use Rattle.log.specs.Order.{entryOk, follows, placeOk, inOrder, restZero, logOk}
@@ -44,7 +44,7 @@ election = Elect 0 3
 
 -- server 0 is elected and writes 41 for key 5, at the time (1,0)
 abbrev written : Cluster
-written = stepOf (stepOf fresh election .cluster) (Writes 0 5 41) .cluster
+written = stepOf (stepOf fresh election .cluster) (Writes 0 5 41 zeroTime) .cluster
 
 abbrev written-at : Time
 written-at = record { p = 1; l = 0 }
@@ -64,7 +64,7 @@ record Runs : Type 0 where
   reads-none : stepOf written (reading 6) .answer ≡ A.Value 0 written-at
 
 runs : Runs
-unfolding every count highest eachFrom isBefore sameTime tickOf sameEntry entryAt latestValue appended entryOk follows placeOk inOrder restZero logOk isUnused isUsed noteOk notesOk slotOk queueOk sourceOk mailOk startedOf votedOf member isWithin numbersOk countedOk zeroOk serverOk wellFormed stampedOf notBehind mayVote allMayVote delivered rowOf coreOf stepOf
+unfolding every count highest eachFrom isBefore sameTime laterOf tickOf sameEntry entryAt latestValue appended entryOk follows placeOk inOrder restZero logOk isUnused isUsed noteOk notesOk slotOk queueOk sourceOk mailOk startedOf votedOf member isWithin numbersOk countedOk zeroOk serverOk wellFormed stampedOf notBehind mayVote allMayVote delivered rowOf coreOf stepOf
 runs =
     record {
       well-formed = refl;

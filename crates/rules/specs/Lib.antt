@@ -2,3 +2,4 @@
 pub mod Rules
 pub mod One
 pub mod Statements
+pub mod Stamped

@@ -24,9 +24,8 @@ use Rattle.pairs.specs.RollsBack.{rollRules, rollDone}
 use Rattle.singles.specs.StepsDown.{downRules, downDone}
 use Rattle.singles.specs.WallClock.{clockRules, clockDone}
 use Rattle.singles.specs.Restarts.{restartsOf}
-use Rattle.singles.specs.Appends.{appendRules, appendDone}
-use Rattle.singles.specs.Writes.{writeRules}
-use Rattle.singles.specs.WritesNothing.{nothingDone}
+use Rattle.singles.specs.Writes.{writeRules, writeDone}
+use Rattle.singles.specs.WritesNothing.{nothingRules, nothingDone}
 use Rattle.singles.specs.LocalRead.{localRules, localDone}
 use Rattle.singles.specs.MajorityRead.{majorityRules, majorityDone}
 use Rattle.singles.specs.NewestRead.{newestRules, newestDone}
@@ -62,7 +61,7 @@ rowOf c (StepDown a) = (inRange c a ∷ downRules (serverAt c a .head), putBack 
 rowOf c (Hears a b) = (bothInRange c a b [], putBack c a (hearsOf (serverAt c a) (serverAt c b)))
 rowOf c (Pulls a b) = (bothInRange c a b (pullRules (serverAt c a) (serverAt c b)), putBack c a (pullDone (serverAt c a) (serverAt c b) a b))
 rowOf c (RollsBack a b) = (bothInRange c a b (rollRules (serverAt c a) (serverAt c b)), putBack c a (rollDone (serverAt c a) (serverAt c b) a b))
-rowOf c (Writes a key value) = (inRange c a ∷ writeRules (serverAt c a) key value, putBack c a (appendDone (serverAt c a) key value))
+rowOf c (Writes a key value client) = (inRange c a ∷ writeRules (serverAt c a) key value client, putBack c a (writeDone (serverAt c a) key value client))
 rowOf c (Advances a) = (advanceRules c a, advanceDone c a)
 rowOf c (WallClock a) = (inRange c a ∷ clockRules (serverAt c a .head), putBack c a (clockDone (serverAt c a)))
 rowOf c (Restarts a) = (inRange c a ∷ [], putBack c a (restartsOf (serverAt c a)))
@@ -70,7 +69,7 @@ rowOf c (LocalRead a key asked) = (inRange c a ∷ localRules (serverAt c a) key
 rowOf c (MajorityRead a key asked) = (inRange c a ∷ majorityRules (serverAt c a) key asked, putBack c a (majorityDone (serverAt c a) key))
 rowOf c (Acknowledged a k n term) = (acknowledgeRules c a k n term, acknowledgeDone c a n)
 rowOf c ClocksAgree = ([], agreesOf c)
-rowOf c (WritesNothing a) = (inRange c a ∷ appendRules (serverAt c a), putBack c a (nothingDone (serverAt c a)))
+rowOf c (WritesNothing a) = (inRange c a ∷ nothingRules (serverAt c a), putBack c a (nothingDone (serverAt c a)))
 rowOf c (NewestRead a key n term) = (inRange c a ∷ newestRules (serverAt c a) key n term, putBack c a (newestDone (serverAt c a) key n))
 rowOf c (TakesReport a) = (inRange c a ∷ takeRules (serverAt c a), putBack c a (takeDone (serverAt c a)))
 

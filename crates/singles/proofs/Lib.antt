@@ -1,2 +1,3 @@
 -- Laws of the kinds of one server. Assumes nothing.
+pub mod ZeroTime
 pub mod Results

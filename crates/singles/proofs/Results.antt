@@ -35,8 +35,8 @@ wall-clock s = one-result (wallClockOf s)
 pub restarts : (s : Server) → OneResult (λ x. restarts-reads.Learnt tt (s, tt) x (s, tt))
 restarts s = one-result (restartsOf s)
 
-pub writes : (s : Server) (key value : ℕ) → OneResult (λ x. writes-reads.Learnt tt (s, (key, (value, tt))) x (s, (key, (value, tt))))
-writes s key value = one-result (writesOf s key value)
+pub writes : (s : Server) (key value : ℕ) (client : Time) → OneResult (λ x. writes-reads.Learnt tt (s, (key, (value, (client, tt)))) x (s, (key, (value, (client, tt)))))
+writes s key value client = one-result (writesOf s key value client)
 
 pub writes-nothing : (s : Server) → OneResult (λ x. writes-nothing-reads.Learnt tt (s, tt) x (s, tt))
 writes-nothing s = one-result (writesNothingOf s)
@@ -44,8 +44,8 @@ writes-nothing s = one-result (writesNothingOf s)
 pub stamped : (s : Server) (key value : ℕ) (time : Time) → OneResult (λ x. stamped-reads.Learnt tt (s, (key, (value, (time, tt)))) x (s, (key, (value, (time, tt)))))
 stamped s key value time = one-result (stampDone s key value time)
 
-pub appends : (s : Server) (key value : ℕ) → OneResult (λ x. appends-reads.Learnt tt (s, (key, (value, tt))) x (s, (key, (value, tt))))
-appends s key value = one-result (appendsOf s key value)
+pub appends : (s : Server) (key value : ℕ) (from : Time) → OneResult (λ x. appends-reads.Learnt tt (s, (key, (value, (from, tt)))) x (s, (key, (value, (from, tt)))))
+appends s key value from = one-result (appendsOf s key value from)
 
 pub local-read : (s : Server) (key : ℕ) (asked : Time) → OneResult (λ x. local-read-reads.Learnt tt (s, (key, (asked, tt))) x (s, (key, (asked, tt))))
 local-read s key asked = one-result (localReadOf s key asked)

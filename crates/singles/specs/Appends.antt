@@ -27,12 +27,12 @@ abbrev pub tickTime : Ticked → Time
 tickTime (To t) = t
 tickTime AtLimit = zeroTime
 
--- a primary; its log not full; refusal 7 where l is at its limit and the tick must raise it
-abbrev pub appendRules : Server → Rules
-appendRules s =
+-- a primary; its log not full; refusal 7 where l is at its limit and the tick from this time must raise it
+abbrev pub appendRules : Server → Time → Rules
+appendRules s from =
     (s .head .primary, R.WrongRole)
     ∷ (ltb (lengthOf (s .log)) logLimit, R.LogFull)
-    ∷ (ticks (tickOf (s .head .wall) (s .head .time)), R.AtLimit)
+    ∷ (ticks (tickOf (s .head .wall) from), R.AtLimit)
     ∷ []
 
 -- one entry with a's term and the new cluster time t
@@ -47,8 +47,8 @@ abbrev pub stampDone : Server → ℕ → ℕ → Time → Stepped
 stampDone s key value t =
     record { server = stampedOf s key value t; answer = A.Entry (lengthOf (appended (s .log) (newEntry s key value t))) (s .head .term) t; sends = Nothing }
 
-abbrev pub appendDone : Server → ℕ → ℕ → Stepped
-appendDone s key value = stampDone s key value (tickTime (tickOf (s .head .wall) (s .head .time)))
+abbrev pub appendDone : Server → ℕ → ℕ → Time → Stepped
+appendDone s key value from = stampDone s key value (tickTime (tickOf (s .head .wall) from))
 
-abbrev pub appendsOf : Server → ℕ → ℕ → Stepped
-appendsOf s key value = decided (refusing s) (appendDone s key value) (appendRules s)
+abbrev pub appendsOf : Server → ℕ → ℕ → Time → Stepped
+appendsOf s key value from = decided (refusing s) (appendDone s key value from) (appendRules s from)

@@ -35,9 +35,9 @@ pub fn stamped(s: Server, key: u8, value: u16, time: Time) -> Stepped
     }
 }
 
-// The same, at the tick of its clocks, where a primary may append.
-pub fn appends(s: Server, key: u8, value: u16) -> Stepped
-    ensures { λ r. ⌜ r ≡ appendsOf s key value ⌝ }
+// The same, at the tick from this time, where a primary may append.
+pub fn appends(s: Server, key: u8, value: u16, from: Time) -> Stepped
+    ensures { λ r. ⌜ r ≡ appendsOf s key value from ⌝ }
 {
     if !s.head.primary {
         return steps::refuse(s, Refusal::WrongRole);
@@ -46,7 +46,6 @@ pub fn appends(s: Server, key: u8, value: u16) -> Stepped
     if log::LOG_LIMIT <= log::length_of(g) {
         return steps::refuse(s, Refusal::LogFull);
     }
-    let from = s.head.time;
     let Ticked::To(time) = clock::tick(s.head.wall, from) else {
         return steps::refuse(s, Refusal::AtLimit);
     };

@@ -8,5 +8,5 @@ use steps::Stepped;
 pub fn writes_nothing(s: Server) -> Stepped
     ensures { λ r. ⌜ r ≡ writesNothingOf s ⌝ }
 {
-    appends(s, log::NO_KEY, 0)
+    appends(s, log::NO_KEY, 0, s.head.time)
 }

@@ -3,7 +3,7 @@ use mathlib.Core.List.{List, [], _∷_}
 use mathlib.Core.Bool.{Bool, cond}
 use Prim.Native.Nat.{ℕ}
 use Rattle.steps.specs.declared.Refusal.{Refusal}
-use Rattle.steps.specs.declared.Refusal.the-variants.{NotAFrame, IllFormed, OutOfRange, WrongRole, ConditionUnmet, LogFull, AtLimit, NotYet, BelowCommitPoint, NoSuchEntry}
+use Rattle.steps.specs.declared.Refusal.the-variants.{NotAFrame, IllFormed, OutOfRange, WrongRole, ConditionUnmet, LogFull, AtLimit, NotYet, BelowCommitPoint, NoSuchEntry, ClockAhead}
 
 abbrev pub refusalNumber : Refusal → ℕ
 refusalNumber NotAFrame = 1
@@ -16,6 +16,7 @@ refusalNumber AtLimit = 7
 refusalNumber NotYet = 8
 refusalNumber BelowCommitPoint = 9
 refusalNumber NoSuchEntry = 10
+refusalNumber ClockAhead = 11
 
 -- what has to hold, each with the refusal that is given where it doesn't
 abbrev pub Rules : Type 0

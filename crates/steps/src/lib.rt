@@ -20,8 +20,8 @@ pub enum Step {
     Pulls(u8, u8),
     // a, b
     RollsBack(u8, u8),
-    // a, key, value
-    Writes(u8, u8, u16),
+    // a, key, value, the client's time
+    Writes(u8, u8, u16, Time),
     // a
     Advances(u8),
     // a
@@ -67,6 +67,7 @@ pub enum Refusal {
     NotYet,
     BelowCommitPoint,
     NoSuchEntry,
+    ClockAhead,
 }
 
 // An answer carries either its numbers or one refusal, never both.

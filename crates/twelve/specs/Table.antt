@@ -8,7 +8,7 @@ use lib.ListN.{length, replicate}
 use Rattle.clock.specs.declared.Time.{Time}
 use Rattle.clock.specs.declared.Ticked.{Ticked}
 use Rattle.clock.specs.declared.Ticked.the-variants.{To, AtLimit}
-use Rattle.clock.specs.Times.{isBefore, sameTime, tickOf}
+use Rattle.clock.specs.Times.{zeroTime, isBefore, sameTime, tickOf}
 use Rattle.log.specs.declared.Entry.{Entry}
 use Rattle.log.specs.declared.Log.{Log}
 use Rattle.log.specs.Entries.{zeroEntry, lastTerm, appliedTime, commonBeginning}
@@ -46,7 +46,7 @@ pub data Row : Type 0 where
   before : Pair → Pair → Bool → Row
   -- the time after a tick from a time at a wall clock
   tick : Pair → ℕ → Pair → Row
-  -- the refusal of a write, by a primary of this cluster time and wall clock that nothing else keeps from writing
+  -- the refusal of a write whose client carries (0,0), by a primary of this cluster time and wall clock that nothing else keeps from writing
   write : Pair → ℕ → ℕ → Row
   -- how many entries two logs share
   share : Terms → Terms → ℕ → Row
@@ -102,7 +102,7 @@ unfoldable pub rowHolds : Row → Bool
 rowHolds (majority m n b) = Bool·beq (isMajority m n) b
 rowHolds (before s t b) = Bool·beq (isBefore (timeOf s) (timeOf t)) b
 rowHolds (tick t wall u) = ticksTo (tickOf wall (timeOf t)) (timeOf u)
-rowHolds (write t wall n) = eqb (verdict (writeRules (writerOf (timeOf t) wall) 0 1)) n
+rowHolds (write t wall n) = eqb (verdict (writeRules (writerOf (timeOf t) wall) 0 1 zeroTime)) n
 rowHolds (share xs ys n) = eqb (commonBeginning (live (logOf xs)) (live (logOf ys))) n
 rowHolds (pull xs ys n) = eqb (verdict (pullRules (secondaryOf xs) (secondaryOf ys))) n
 rowHolds (rollBack xs ys n) = eqb (verdict (rollRules (secondaryOf xs) (secondaryOf ys))) n

@@ -192,7 +192,7 @@ returns-6 : tie.Need-returns-6
 returns-6 c = let g = c .before .before .step6 .given in c .pair3 .ensures ∙ core-rolls-back (c .before .before .before .before .args .c) (g .0 .0) (g .0 .1 .0) ∙ sym (ap (coreOf (c .before .before .before .before .args .c)) (g .1))
 
 returns-7 : tie.Need-returns-7
-returns-7 c = let g = c .before .before .step7 .given in c .single2 .ensures ∙ core-writes (c .before .before .before .before .args .c) (g .0 .0) (g .0 .1 .0) (g .0 .1 .1 .0) ∙ sym (ap (coreOf (c .before .before .before .before .args .c)) (g .1))
+returns-7 c = let g = c .before .before .step7 .given in c .single2 .ensures ∙ core-writes (c .before .before .before .before .args .c) (g .0 .0) (g .0 .1 .0) (g .0 .1 .1 .0) (g .0 .1 .1 .1 .0) ∙ sym (ap (coreOf (c .before .before .before .before .args .c)) (g .1))
 
 returns-8 : tie.Need-returns-8
 unfolding coreOf rowOf

@@ -27,7 +27,7 @@ refuse-requires c κs = search needs
 returns : tie.Need-returns
 returns c =
     let b = c .before .before .before .args in
-    c .refuse .ensures ∙ sym (decided-broken (refusing (b .s)) (appendDone (b .s) (b .key) (b .value)) {rs = appendRules (b .s)} (here (not-true (b .s .head .primary) (c .before .if1 .taken))))
+    c .refuse .ensures ∙ sym (decided-broken (refusing (b .s)) (appendDone (b .s) (b .key) (b .value) (b .from)) {rs = appendRules (b .s) (b .from)} (here (not-true (b .s .head .primary) (c .before .if1 .taken))))
 
 length-of-requires : tie.Need-length-of-requires
 length-of-requires c κs = search needs
@@ -39,7 +39,7 @@ returns-2 : tie.Need-returns-2
 returns-2 c =
     let b = c .before .before .before .before .before .before .args in
     let no : ltb (lengthOf (b .s .log)) logLimit ≡ false = le-ltb (lengthOf (b .s .log)) logLimit (omega (arith, c .before .before .length-of .ensures)) in
-    c .refuse2 .ensures ∙ sym (decided-broken (refusing (b .s)) (appendDone (b .s) (b .key) (b .value)) {rs = appendRules (b .s)}
+    c .refuse2 .ensures ∙ sym (decided-broken (refusing (b .s)) (appendDone (b .s) (b .key) (b .value) (b .from)) {rs = appendRules (b .s) (b .from)}
     (later (primary (c .before .before .before .before)) (here no)))
 
 tick-requires : tie.Need-tick-requires
@@ -56,20 +56,20 @@ refuse-requires-3 c κs = search needs
 
 returns-3 : tie.Need-returns-3
 returns-3 c =
-    let b = c .before .before .before .before .before .before .before .before .before .before .args in
-    c .refuse3 .ensures ∙ sym (decided-broken (refusing (b .s)) (appendDone (b .s) (b .key) (b .value)) {rs = appendRules (b .s)}
-    (later (primary (c .before .before .before .before .before .before .before .before)) (later (room (c .before .before .before .before .before)) (here (ap ticks (sym (c .before .before .before .tick .ensures) ∙ c .before .enum-told .given .1))))))
+    let b = c .before .before .before .before .before .before .before .before .before .args in
+    c .refuse3 .ensures ∙ sym (decided-broken (refusing (b .s)) (appendDone (b .s) (b .key) (b .value) (b .from)) {rs = appendRules (b .s) (b .from)}
+    (later (primary (c .before .before .before .before .before .before .before)) (later (room (c .before .before .before .before)) (here (ap ticks (sym (c .before .before .before .tick .ensures) ∙ c .before .enum-told .given .1))))))
 
 stamped-requires : tie.Need-stamped-requires
 stamped-requires c κs = search needs
 
 returns-4 : tie.Need-returns-4
 returns-4 c =
-    let b = c .before .before .before .before .before .before .before .before .before .before .before .args in
+    let b = c .before .before .before .before .before .before .before .before .before .before .args in
     let e = sym (c .before .before .before .before .tick .ensures) ∙ c .before .before .time .given .1 in
     c .stamped .ensures ∙ ap (λ (t : Ticked). stampDone (b .s) (b .key) (b .value) (tickTime t)) (sym e)
-    ∙ sym (decided-clear (refusing (b .s)) (appendDone (b .s) (b .key) (b .value)) (appendRules (b .s))
-    (primary (c .before .before .before .before .before .before .before .before .before), (room (c .before .before .before .before .before .before), (ap ticks e, tt))))
+    ∙ sym (decided-clear (refusing (b .s)) (appendDone (b .s) (b .key) (b .value) (b .from)) (appendRules (b .s) (b .from))
+    (primary (c .before .before .before .before .before .before .before .before), (room (c .before .before .before .before .before), (ap ticks e, tt))))
 
 pub appends-spec : {M : Type 1} → statement M
 appends-spec =
