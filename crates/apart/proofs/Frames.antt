@@ -52,7 +52,7 @@ pub kind-15-uses-a-set : readStep (48 ∷ 102 ∷ (replicate 5 48 ++ (49 ∷ rep
 unfolding every digitOf byteOf allHex highOf lowOf framed bytesOfFrame stepOfFrame isClean stepIn
 kind-15-uses-a-set = refl
 
-pub step-with-a-byte-of-the-term : take 4 (drop 10 (writeStep (Writes 0 5 256))) ≡ 48 ∷ 49 ∷ 48 ∷ 48 ∷ []
+pub step-with-a-byte-of-the-term : take 4 (drop 10 (writeStep (Writes 0 5 256 (at 0 0)))) ≡ 48 ∷ 49 ∷ 48 ∷ 48 ∷ []
 unfolding charOf highOf lowOf bytesOfFrame
 step-with-a-byte-of-the-term = refl
 
@@ -71,9 +71,9 @@ pub answer-drops-the-term :
 unfolding charOf highOf lowOf answerFrame
 answer-drops-the-term = refl
 
-pub answer-of-refusal-11 : readAnswer (48 ∷ 98 ∷ replicate 16 48) ≡ NoFrame
+pub answer-of-refusal-12 : readAnswer (48 ∷ 99 ∷ replicate 16 48) ≡ NoFrame
 unfolding every sameTime digitOf byteOf allHex wordOf framed refusalOf tellingBy tellingIn
-answer-of-refusal-11 = refl
+answer-of-refusal-12 = refl
 
 -- 03 0000 0001 0000 0000
 pub refusal-with-a-term : readAnswer (48 ∷ 51 ∷ (replicate 7 48 ++ (49 ∷ replicate 8 48))) ≡ NoFrame

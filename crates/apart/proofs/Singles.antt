@@ -56,13 +56,13 @@ restarts-with-its-source = refl
 pub restarts-with-its-notes : noteAt (restartsOf (withMail freshServer (noting (noteOf f ∷ []))) .server .mail) 0 ≡ zeroNote
 restarts-with-its-notes = refl
 
-pub writes-into-a-full-log : writesOf (leader (replicate 32 x)) 5 42 .answer ≡ Refused LogFull
+pub writes-into-a-full-log : writesOf (leader (replicate 32 x)) 5 42 (at 0 0) .answer ≡ Refused LogFull
 writes-into-a-full-log = refl
 
-pub writes-key-sixteen : writesOf (leader []) 16 1 .answer ≡ Refused OutOfRange
+pub writes-key-sixteen : writesOf (leader []) 16 1 (at 0 0) .answer ≡ Refused OutOfRange
 writes-key-sixteen = refl
 
-pub role-before-range : writesOf freshServer 16 1 .answer ≡ Refused OutOfRange
+pub role-before-range : writesOf freshServer 16 1 (at 0 0) .answer ≡ Refused OutOfRange
 role-before-range = refl
 
 pub stamped-with-the-old-time : entryAt (live (stampDone (timed (at 1 0)) 5 41 (at 2 0) .server .log)) 1 .time ≡ at 2 0
@@ -73,7 +73,7 @@ pub stamped-leaves-the-time : stampDone (timed (at 1 0)) 5 41 (at 2 0) .server .
 unfolding stampedOf
 stamped-leaves-the-time = refl
 
-pub nothing-without-a-tick : appendsOf (leader []) 255 0 .server .head .time ≡ at 1 0
+pub nothing-without-a-tick : appendsOf (leader []) 255 0 (at 0 0) .server .head .time ≡ at 1 0
 unfolding isBefore tickOf stampedOf
 nothing-without-a-tick = refl
 

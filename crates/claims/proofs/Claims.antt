@@ -9,19 +9,20 @@ use mathlib.Core.Bool.{Bool, true, false, cond, _||_}
 use mathlib.Core.List.{List, [], _∷_, _++_}
 use Prim.Native.Nat.{ℕ, _≤_, _<_, _*_, _/_, _%_, _^_}
 use lib.Count.{ones}
-use lib.Dec.{eqb}
+use lib.Dec.{eqb, leb}
 use lib.ListN.{length, getD, take}
 use Rattle.base.proofs.Results.{OneResult, OneOutcome}
 use Rattle.base.specs.Numbers.{count}
 use Rattle.clock.specs.declared.Ticked.the-variants.{To}
 use Rattle.clock.specs.declared.Time.{Time}
-use Rattle.clock.specs.Times.{limit, isBefore, tickOf}
+use Rattle.clock.specs.Times.{limit, zeroTime, isBefore, tickOf}
 use Rattle.clock.proofs.Order as order
 use Rattle.clock.proofs.Ticks as ticks
 use Rattle.log.specs.declared.Entry.{Entry}
 use Rattle.log.specs.declared.Log.{Log}
 use Rattle.log.specs.Entries.{sameEntry, entryAt, commonBeginning, latestValue}
 use Rattle.log.specs.Logs.{live, lengthOf, joined}
+use Rattle.log.specs.Order.{highestKey}
 use Rattle.log.proofs.Common as common
 use Rattle.log.proofs.Equal as equal
 use Rattle.log.proofs.Latest as latest
@@ -29,7 +30,7 @@ use Rattle.cluster.specs.declared.Server.{Server}
 use Rattle.cluster.specs.Sets.{bits, membersOf, mostOf}
 use Rattle.cluster.proofs.Good as facts
 use Rattle.cluster.proofs.Masks as masks
-use Rattle.steps.specs.declared.Step.the-variants.{Start, Elect, Pulls, RollsBack, ClocksAgree, WritesNothing, NewestRead, TakesReport}
+use Rattle.steps.specs.declared.Step.the-variants.{Start, Elect, Pulls, RollsBack, Writes, ClocksAgree, WritesNothing, NewestRead, TakesReport}
 use Rattle.steps.specs.Answers.{numberOf}
 use Rattle.steps.proofs.Numbers as numbers
 use Rattle.wholes.specs.Starts.{startRules}
@@ -58,20 +59,26 @@ use Rattle.steps.specs.declared.Answer.{Answer}
 use Rattle.steps.specs.declared.Answer.the-variants as A
 use Rattle.steps.specs.declared.Outcome.{Outcome}
 use Rattle.steps.specs.declared.Refusal.{Refusal}
-use Rattle.steps.specs.declared.Refusal.the-variants.{IllFormed}
+use Rattle.steps.specs.declared.Refusal.the-variants.{IllFormed, OutOfRange}
 use Rattle.steps.specs.declared.Step.{Step}
 use Rattle.steps.specs.declared.Telling.{Telling}
-use Rattle.steps.specs.Answers.{refusingAll}
+use Rattle.steps.specs.Answers.{refusing, refusingAll}
 use Rattle.steps.specs.Ranges.{FitsStep}
 use Rattle.steps.specs.Reasons.{Clear, Broken, Applies, rankOf}
+use Rattle.steps.specs.Refusals.{decided}
+use Rattle.singles.specs.Appends.{appendRules, appendDone}
+use Rattle.singles.specs.Writes.{writesOf}
+use Rattle.singles.proofs.ZeroTime as zero-time
 use Rattle.rules.specs.Rules.{isStart, rulesOf, doneOf, stepOf}
 use Rattle.rules.specs.Statements.{Why, touches, Differs, refusesEach, saysOne, leavesAll, echoesLater}
+use Rattle.rules.specs.Stamped.{Stamped}
 use Rattle.rules.proofs.step.Reads as step-contract
 use Rattle.rules.proofs.Outcomes as outcomes
 use Rattle.rules.proofs.Ranks as ranks
 use Rattle.rules.proofs.Others as others
 use Rattle.rules.proofs.Keeps as keeps
 use Rattle.rules.proofs.Shut as shut
+use Rattle.rules.proofs.Stamped as stamped
 use Rattle.rules.proofs.Results as rules-results
 use Rattle.frames.specs.declared.ReadStep.{ReadStep}
 use Rattle.frames.specs.declared.ReadStep.the-variants as R
@@ -105,6 +112,8 @@ use Rattle.shell.specs.Loop.{Drains}
 use Rattle.shell.proofs.Loop as loop
 use Rattle.safety.specs.Promise.{Promised}
 use Rattle.safety.proofs.Promise as safety
+use Rattle.safety.specs.Clocks.{ClocksPromised}
+use Rattle.safety.proofs.Clocks as clocks
 use Rattle.safety.specs.Newest.{NewestPromised, NewestRun, readAfter}
 use Rattle.safety.proofs.Newest as newest
 use Rattle.safety.proofs.NewestExample as overtaken
@@ -375,6 +384,24 @@ newest-over-savings = carried.newest-carried
 
 pub lines-carried-on : CarriedInTexts
 lines-carried-on = carried-texts.carried-in-texts
+
+-- ---- phones carry a clock
+
+-- the time of a write that is answered is after the client's and after the cluster time before; it is the new cluster time and the entry's, and
+-- the wall clock doesn't move
+pub a-write-is-after-its-client : (c : Cluster) → Fits c → (a key value : ℕ) (client : Time) (n term : ℕ) (t : Time)
+    → stepOf c (Writes a key value client) .answer ≡ A.Entry n term t → Stamped c (stepOf c (Writes a key value client) .cluster) a client t
+a-write-is-after-its-client = stamped.written
+
+-- a client's time (0,0) is the old meaning: the write of a server that goes by its own clocks
+pub no-time-is-the-old-write : (s : Server) (key value : ℕ) → let now = s .head .time in
+    writesOf s key value zeroTime
+    ≡ decided (refusing s) (appendDone s key value now) ((leb key highestKey, OutOfRange) ∷ (leb 1 value, OutOfRange) ∷ appendRules s now)
+no-time-is-the-old-write = zero-time.zero-time
+
+-- no broken phone pushes the clocks to their end: no time is more than 600 above the greatest wall clock, and wall clocks never fall
+pub no-phone-pushes-the-clocks : ClocksPromised
+no-phone-pushes-the-clocks = clocks.clocks-held
 
 -- ---- what the definitions mean, beside document 01
 

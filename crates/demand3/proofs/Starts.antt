@@ -14,10 +14,10 @@ use Rattle.steps.specs.Reasons.{Clear}
 use Rattle.wholes.specs.Starts.{startRules}
 use Rattle.rules.specs.Rules.{rowOf, isStart, stepOf}
 use Rattle.rules.proofs.Keeps.{start-fresh}
+use Rattle.rules.proofs.Outcomes.{answered-done}
 use Rattle.frames.specs.declared.ReadStep.the-variants as R
 use Rattle.frames.specs.Steps.{readStep}
 use Rattle.replay.specs.Texts.{respond, answerTo}
-use Rattle.safety.proofs.Answered.{answered-done}
 use Rattle.demand3.specs.Promise.{Line, Begins}
 
 -- a start names its servers
@@ -28,7 +28,7 @@ start-of (StepDown a) e = not-both false e refl
 start-of (Hears a b) e = not-both false e refl
 start-of (Pulls a b) e = not-both false e refl
 start-of (RollsBack a b) e = not-both false e refl
-start-of (Writes a key value) e = not-both false e refl
+start-of (Writes a key value client) e = not-both false e refl
 start-of (Advances a) e = not-both false e refl
 start-of (WallClock a) e = not-both false e refl
 start-of (Restarts a) e = not-both false e refl

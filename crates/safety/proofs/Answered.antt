@@ -1,29 +1,17 @@
--- What a read finds among entries, and what an answer that is no refusal says of its step.
+-- What a read finds among entries.
 -- Assumes nothing.
 use mathlib.Core.Path.{_≡_, ap, sym, _∙_}
-use mathlib.Core.Bool.{false, true, _||_}
-use mathlib.Core.Logic.{_≢_, by-cases, ⊎-elim}
+use mathlib.Core.Logic.{_≢_, by-cases}
 use mathlib.Core.List.{List}
 use Prim.Native.Nat.{ℕ, _<_, _≤_}
 use native.Mathlib.Decide.{decLe}
 use native.Mathlib.Omega.{arith}
 use lib.ListN.{length, take}
 use lib.Seq.{length-take-le}
-use Rattle.base.proofs.Bools.{not-both}
 use Rattle.log.specs.declared.Entry.{Entry}
 use Rattle.log.specs.Entries.{entryAt, latestValue}
 use Rattle.log.proofs.Latest.{found, latest-found, found-le, found-key, found-last}
 use Rattle.log.proofs.Live.{entryAt-take}
-use Rattle.cluster.specs.declared.Cluster.{Cluster}
-use Rattle.cluster.specs.WellFormed.{wellFormed}
-use Rattle.steps.specs.declared.Answer.{Answer}
-use Rattle.steps.specs.declared.Outcome.{Outcome}
-use Rattle.steps.specs.declared.Step.{Step}
-use Rattle.steps.specs.Reasons.{Clear}
-use Rattle.rules.specs.Rules.{rulesOf, doneOf, isStart, stepOf}
-use Rattle.rules.proofs.Outcomes.{StepDone, StepRefused, step-cases, isRefused}
-
--- ---- among entries
 
 pub key-of : {d e : Entry} → d ≡ e → d .key ≡ e .key
 key-of q = ap (λ (e : Entry). e .key) q
@@ -58,24 +46,3 @@ latest-first key k es within low =
     p =
         found-at key (take k es) (found key es) (omega (arith, long)) (λ one. key-of (same (found key es) low) ∙ found-key key es one)
         (λ j l m e. found-last key es j l (omega (arith, long)) (key-of (sym (same j (omega (arith, long)))) ∙ e))
-
--- ---- an answer
-
--- a step that is done and answers so, with all that let it be done
-pub record DoneWith (c : Cluster) (s : Step) (a : Answer) : Type 0 where
-  pub seen : (isStart s || wellFormed c) ≡ true
-  pub clear : Clear (rulesOf c s)
-  pub is : stepOf c s ≡ doneOf c s
-  pub answers : doneOf c s .answer ≡ a
-
-pub answered-done : (c : Cluster) (s : Step) {a : Answer} → stepOf c s .answer ≡ a → isRefused a ≡ false → DoneWith c s a
-answered-done c s {a} e told = ⊎-elim done (λ d. absurd (refused d)) (step-cases c s)
-  where
-    as-told : {o : Outcome} → stepOf c s ≡ o → o .answer ≡ a
-    as-told q = sym (ap (λ (o : Outcome). o .answer) q) ∙ e
-
-    done : StepDone c s → DoneWith c s a
-    done d = record { seen = d .seen; clear = d .clear; is = d .is; answers = as-told (d .is) }
-
-    refused : StepRefused c s → ⊥
-    refused d = not-both (isRefused a) (ap isRefused (sym (as-told (d .is)))) told

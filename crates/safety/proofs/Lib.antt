@@ -1,5 +1,5 @@
--- The laws and proofs of the safety theory, and of the records that are joined to it: `Promise` has demand 3, and `Newest` the
--- read that is sure to be newest.
+-- The laws and proofs of the safety theory, and of the records that are joined to it: `Promise` has demand 3, `Newest` the read that is sure to
+-- be newest, and `Clocks` that no time runs far ahead.
 -- Assumes nothing.
 pub mod Quorum
 pub mod Time
@@ -30,3 +30,4 @@ pub mod Newest
 pub mod Example
 pub mod NewestExample
 pub mod StaleExample
+pub mod Clocks

@@ -27,6 +27,7 @@ use Rattle.steps.specs.declared.Answer.the-variants.{Value}
 use Rattle.singles.specs.MajorityRead.{commitTime, covered}
 use Rattle.rules.specs.Rules.{rowOf, stepOf}
 use Rattle.rules.proofs.Keeps.{step-fits}
+use Rattle.rules.proofs.Outcomes.{answered-done}
 use Rattle.safety.specs.Cluster.{Holds}
 use Rattle.safety.specs.Steps.{Walk, stop, go}
 use Rattle.safety.specs.Demand3.{LastFor, Demand3}
@@ -37,7 +38,7 @@ use Rattle.safety.proofs.Quorum.{majorities, majority-count}
 use Rattle.safety.proofs.Time.{stamp-before, not-before-stamp}
 use Rattle.safety.proofs.Joins.{walk-on, commit-within}
 use Rattle.safety.proofs.Demand3.{demand3}
-use Rattle.safety.proofs.Answered.{key-of, value-of, found-at, answered-done}
+use Rattle.safety.proofs.Answered.{key-of, value-of, found-at}
 use Rattle.safety.proofs.Views.{fresh-seen, fits-time, same-entry, holds-beginning}
 use Rattle.safety.proofs.Stepped.{Now, step-next, never-9}
 

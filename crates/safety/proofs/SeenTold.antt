@@ -32,7 +32,8 @@ use Rattle.pairs.specs.RollsBack.{rolledOf}
 use Rattle.singles.specs.StepsDown.{downDone}
 use Rattle.singles.specs.WallClock.{clockDone}
 use Rattle.singles.specs.Restarts.{restartsOf}
-use Rattle.singles.specs.Appends.{stampedOf, appendDone}
+use Rattle.singles.specs.Appends.{stampedOf}
+use Rattle.singles.specs.Writes.{writeDone}
 use Rattle.singles.specs.WritesNothing.{nothingDone}
 use Rattle.singles.specs.LocalRead.{localDone}
 use Rattle.singles.specs.MajorityRead.{majorityDone}
@@ -191,7 +192,7 @@ told-next c f (StepDown a) h = quiet-told c _ a (downDone (serverAt c a)) refl r
 told-next c f (Hears a b) h = quiet-told c _ a (hearsOf (serverAt c a) (serverAt c b)) refl refl
 told-next c f (Pulls a b) h = sent-told c f a b (h .0) (pulledOf (serverAt c a) (serverAt c b)) refl
 told-next c f (RollsBack a b) h = sent-told c f a b (h .0) (rolledOf (serverAt c a) (serverAt c b)) refl
-told-next c f (Writes a key value) h = quiet-told c _ a (appendDone (serverAt c a) key value) refl refl
+told-next c f (Writes a key value client) h = quiet-told c _ a (writeDone (serverAt c a) key value client) refl refl
 told-next c f (Advances a) h = put-told c _ c a (committedOf (serverAt c a) (highestPassing (serverCount c) (serverAt c a) a)) (same-told c _) (same-told c _ a)
 told-next c f (WallClock a) h = quiet-told c _ a (clockDone (serverAt c a)) refl refl
 told-next c f (Restarts a) h = back-told c _ a (restartsOf (serverAt c a)) zero-told tt

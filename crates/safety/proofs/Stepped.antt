@@ -75,8 +75,8 @@ module _ {n : ℕ} {some : 0 < n} {c : Cluster} (now : Now n some c) where
   done-next (Pulls a b) f no-start wf h =
       record { goes = sees-pull c (now .fits) (good c (now .fits) wf) (fresh-seen n) (now .walk) a b h; counted = refl }
   done-next (RollsBack a b) f no-start wf h = record { goes = sees-roll c (now .fits) a b h; counted = refl }
-  done-next (Writes a key value) f no-start wf h =
-      record { goes = sees-write c (now .fits) (good c (now .fits) wf) a key value h; counted = refl }
+  done-next (Writes a key value client) f no-start wf h =
+      record { goes = sees-write c (now .fits) (good c (now .fits) wf) a key value client h; counted = refl }
   done-next (Advances a) f no-start wf h = record { goes = sees-advance c (now .fits) most a h; counted = refl }
   done-next (WallClock a) f no-start wf h = record { goes = sees-clock c (now .fits) a h; counted = refl }
   done-next (Restarts a) f no-start wf h = record { goes = sees-restart c (now .fits) a h; counted = refl }
@@ -120,7 +120,7 @@ module _ {n : ℕ} {some : 0 < n} {c : Cluster} (now : Now n some c) where
   broken-9 (Hears a d) wf b = not-broken (omega arith) b refl
   broken-9 (Pulls a d) wf b = not-broken (omega arith) b refl
   broken-9 (RollsBack a d) wf b = roll-not-9 c (now .fits) (good c (now .fits) wf) (fresh-seen n) (now .walk) a d b
-  broken-9 (Writes a key value) wf b = not-broken (omega arith) b refl
+  broken-9 (Writes a key value client) wf b = not-broken (omega arith) b refl
   broken-9 (Advances a) wf b = not-broken (omega arith) b refl
   broken-9 (WallClock a) wf b = not-broken (omega arith) b refl
   broken-9 (Restarts a) wf b = not-broken (omega arith) b refl
