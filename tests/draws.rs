@@ -111,7 +111,7 @@ impl Run {
     }
 
     /// A time at or beside a boundary.
-    fn time_around(&mut self, time: Time) -> Time {
+    pub(super) fn time_around(&mut self, time: Time) -> Time {
         let Time { p, l } = time;
         match self.prng.below(16) {
             0 => Time { p, l: l.saturating_add(1) },
@@ -152,7 +152,7 @@ impl Run {
     }
 
     pub(super) fn write_by(&mut self, a: u8) -> Step {
-        Step::Writes { a, key: self.key(), value: self.value() }
+        Step::Writes { a, key: self.key(), value: self.value(), client: self.client_time(a) }
     }
 
     /// What makes an entry at a: mostly a write, else what writes nothing.

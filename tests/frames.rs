@@ -28,8 +28,9 @@ fn fields_of(step: &Step) -> Fields {
         Step::Hears { a, b } | Step::Pulls { a, b } | Step::RollsBack { a, b } => {
             Fields { a, b, ..UNUSED }
         }
-        Step::Writes { a, key, value } => {
-            Fields { a, key, numbers: Numbers { number: value, ..NUMBERS }, ..UNUSED }
+        Step::Writes { a, key, value, client } => {
+            let numbers = Numbers { number: value, time: client, ..NUMBERS };
+            Fields { a, key, numbers, ..UNUSED }
         }
         Step::LocalRead { a, key, time } | Step::MajorityRead { a, key, time } => {
             Fields { a, key, numbers: Numbers { time, ..NUMBERS }, ..UNUSED }

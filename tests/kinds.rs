@@ -21,7 +21,7 @@ pub fn step_where(holds: impl Fn(&Cluster) -> bool, cluster: &mut Cluster, step:
         Step::Hears { a, b } => cluster.hears(a.into(), b.into()),
         Step::Pulls { a, b } => cluster.pulls(a.into(), b.into()),
         Step::RollsBack { a, b } => cluster.rolls_back(a.into(), b.into()),
-        Step::Writes { a, key, value } => cluster.writes(a.into(), key, value),
+        Step::Writes { a, key, value, client } => cluster.writes(a.into(), key, value, client),
         Step::Advances { a } => cluster.advances(a.into()),
         Step::WallClock { a } => cluster.wall_clock(a.into()),
         Step::Restarts { a } => cluster.restarts(a.into()),
@@ -54,11 +54,13 @@ fn refuse_place(position: usize, term: u16) -> Result<(), Condition> {
 }
 
 impl Server {
-    /// What a write and an entry that writes nothing share: a primary's entry, stamped by a tick.
-    fn append_stamped(&mut self, key: u8, value: u16) -> Answer {
+    /// What a write and an entry that writes nothing share: a primary's entry, stamped by a tick
+    /// that starts from the later of the cluster time and the client's.
+    fn append_stamped(&mut self, key: u8, value: u16, client: Time) -> Answer {
         refuse_if(self.role != Primary, NotPrimary)?;
         refuse_if(self.log.length == ENTRIES, LogFull)?;
-        let time = self.cluster_time.tick(self.wall_clock).ok_or(TickAtLimit)?;
+        let from = self.cluster_time.max(client);
+        let time = from.tick(self.wall_clock).ok_or(TickAtLimit)?;
         let entry = Entry { term: self.term, key, value, time };
         self.cluster_time = time;
         self.log.push(entry);
@@ -150,11 +152,12 @@ impl Cluster {
         Numbers::place(report.note.length)
     }
 
-    fn writes(&mut self, a: usize, key: u8, value: u16) -> Answer {
+    fn writes(&mut self, a: usize, key: u8, value: u16, client: Time) -> Answer {
         let a = self.server(a)?;
         refuse_key(key)?;
         refuse_if(value == 0, ValueZero)?;
-        a.append_stamped(key, value)
+        refuse_if(a.is_outrun_by(client), ClockAhead)?;
+        a.append_stamped(key, value, client)
     }
 
     fn advances(&mut self, a: usize) -> Answer {
@@ -220,8 +223,9 @@ impl Cluster {
         Ok(Numbers::NONE)
     }
 
+    /// It is nobody's write and so carries no time.
     fn writes_nothing(&mut self, a: usize) -> Answer {
-        self.server(a)?.append_stamped(KEY_OF_NOTHING, 0)
+        self.server(a)?.append_stamped(KEY_OF_NOTHING, 0, Time::ZERO)
     }
 
     /// Only the primary of the asked entry's own term answers, once that entry is committed.

@@ -32,7 +32,7 @@ pub const MUST_BE_ZERO: [u16; KINDS] = [
     all_but(A | B),
     all_but(A | B),
     all_but(A | B),
-    all_but(A | KEY | NUMBER),
+    all_but(A | KEY | NUMBER | TIME),
     all_but(A),
     all_but(A),
     all_but(A),
@@ -80,7 +80,7 @@ fn read_frame(frame: &[u8; FRAME]) -> Result<Step, Condition> {
         3 => Step::Hears { a, b },
         4 => Step::Pulls { a, b },
         5 => Step::RollsBack { a, b },
-        6 => Step::Writes { a, key, value: number },
+        6 => Step::Writes { a, key, value: number, client: time },
         7 => Step::Advances { a },
         8 => Step::WallClock { a },
         9 => Step::Restarts { a },
@@ -119,7 +119,7 @@ mod tests {
     #[test]
     fn the_table_is_the_rulings_table() {
         let rulings = [
-            0x1ffc, 0x1ff4, 0x1ffc, 0x1ff8, 0x1ff8, 0x1ff8, 0x1f8c, 0x1ffc, 0x1ffc, 0x1ffc, 0x01ec,
+            0x1ffc, 0x1ff4, 0x1ffc, 0x1ff8, 0x1ff8, 0x1ff8, 0x018c, 0x1ffc, 0x1ffc, 0x1ffc, 0x01ec,
             0x01ec, 0x1e14, 0x1ffe, 0x1ffc, 0x1e0c, 0x1ffc,
         ];
         assert_eq!(MUST_BE_ZERO, rulings);
@@ -138,12 +138,17 @@ mod tests {
     }
 
     #[test]
-    fn kinds_14_to_16_use_these_fields_alone() {
+    fn kind_6_and_kinds_14_to_16_use_these_fields_alone() {
+        let client = Time { p: 0x506, l: 0x708 };
+        let step = Step::Writes { a: 1, key: 2, value: 0x304, client };
+        assert_eq!(read_line(b"06010000020304000005060708"), Ok(step));
         assert_eq!(read_line(b"0e070000000000000000000000"), Ok(Step::WritesNothing { a: 7 }));
         assert_eq!(read_line(b"10080000000000000000000000"), Ok(Step::TakesReport { a: 8 }));
         let step = Step::NewestRead { a: 1, key: 255, position: 0x304, term: 0x506 };
         assert_eq!(read_line(b"0f010000ff0304050600000000"), Ok(step));
-        for (kind, used) in [(14, vec![1]), (15, vec![1, 4, 5, 6, 7, 8]), (16, vec![1])] {
+        let write = vec![1, 4, 5, 6, 9, 10, 11, 12];
+        let newest = vec![1, 4, 5, 6, 7, 8];
+        for (kind, used) in [(6, write), (14, vec![1]), (15, newest), (16, vec![1])] {
             for byte in 1..FRAME {
                 let mut line = [0; LINE];
                 let mut frame = [0; FRAME];

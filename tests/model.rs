@@ -1,10 +1,14 @@
 //! One small replica set that can be run: the cluster record, its steps and what comes back; the
-//! seventeen kinds are in `kinds.rs`, and what servers report to each other is in `reports.rs`.
-//! Written from document 01, requests [1] and [3] of document 02 and the rulings alone; `plain.rs`
-//! runs it over lines and `sessions.rs` steers by it. Record-level tests are in `model_tests.rs`.
+//! seventeen kinds are in `kinds.rs`, what refuses them is in `conditions.rs`, and what servers
+//! report to each other is in `reports.rs`. Written from document 01, requests [1], [3] and [5] of
+//! document 02 and the rulings alone; `plain.rs` runs it over lines and `sessions.rs` steers by it.
+//! Record-level tests are in `model_tests.rs`.
+
+pub use self::conditions::{CONDITIONS, Condition};
 
 use self::Condition::*;
 use self::Role::*;
+use self::conditions::refuse_if;
 use self::reports::{Note, Notes, Queue};
 
 /// The most servers a cluster has, and the number of places in the record.
@@ -16,6 +20,8 @@ pub const KINDS: usize = 17;
 const KEY_MAX: u8 = 15;
 /// The key of the entries that write nothing, and of no others; it is neither written nor read.
 const KEY_OF_NOTHING: u8 = 255;
+/// The most that a client's p may be above the wall clock.
+pub const AHEAD_MAX: u16 = 600;
 
 /// Ordered by p and then by l.
 #[derive(Clone, Copy, PartialEq, Eq, PartialOrd, Ord, Debug)]
@@ -65,7 +71,8 @@ pub struct Cluster {
     pub servers: [Server; SERVERS],
 }
 
-/// One step: just the fields its kind uses, each as wide as on the wire.
+/// One step: just the fields its kind uses, each as wide as on the wire. A write's client has seen
+/// a time; zero is none.
 #[derive(Clone, Copy, PartialEq, Eq, Debug)]
 pub enum Step {
     Start { servers: u8 },
@@ -74,7 +81,7 @@ pub enum Step {
     Hears { a: u8, b: u8 },
     Pulls { a: u8, b: u8 },
     RollsBack { a: u8, b: u8 },
-    Writes { a: u8, key: u8, value: u16 },
+    Writes { a: u8, key: u8, value: u16, client: Time },
     Advances { a: u8 },
     WallClock { a: u8 },
     Restarts { a: u8 },
@@ -98,89 +105,11 @@ pub struct Numbers {
 /// Either the numbers or the one condition that refused.
 pub type Answer = Result<Numbers, Condition>;
 
-/// Every condition that refuses, finer than the refusal numbers so that each can be tallied.
-#[derive(Clone, Copy, PartialEq, Eq, Debug)]
-pub enum Condition {
-    WrongLength,
-    WrongCharacter,
-    UnknownKind,
-    UnusedByte,
-    NotWellFormed,
-    StartBelow2,
-    StartAbove7,
-    ServerOutside,
-    OtherServerOutside,
-    SameServer,
-    MemberOutside,
-    CountAbove,
-    KeyAbove15,
-    KeyOfNothing,
-    ValueZero,
-    PositionZero,
-    PositionAbove32,
-    TermZero,
-    NotPrimary,
-    PrimaryOfOtherTerm,
-    NotSecondary,
-    NotAMajority,
-    OutsideItsSet,
-    MemberTermAbove,
-    BehindAMember,
-    NotShorter,
-    LastEntryDiffers,
-    LogEmpty,
-    LastTermNotBelow,
-    ABeginning,
-    NothingPasses,
-    QueueEmpty,
-    LogFull,
-    TermAtLimit,
-    WallClockAtLimit,
-    TickAtLimit,
-    AppliedTimeBefore,
-    CommitTimeBefore,
-    CommitPointBelow,
-    FewerThanCount,
-    CommonBelowCommitPoint,
-    NoEntry,
-    OtherTerm,
-}
-
-/// How many conditions there are.
-pub const CONDITIONS: usize = OtherTerm as usize + 1;
-
-impl Condition {
-    /// The refusal number that documents 01 and 02 give this condition.
-    pub fn number(self) -> u8 {
-        match self {
-            WrongLength | WrongCharacter | UnknownKind | UnusedByte => 1,
-            NotWellFormed => 2,
-            StartBelow2 | StartAbove7 | ServerOutside | OtherServerOutside | SameServer => 3,
-            MemberOutside | CountAbove | KeyAbove15 | KeyOfNothing | ValueZero => 3,
-            PositionZero | PositionAbove32 | TermZero => 3,
-            NotPrimary | PrimaryOfOtherTerm | NotSecondary => 4,
-            NotAMajority | OutsideItsSet | MemberTermAbove | BehindAMember => 5,
-            NotShorter | LastEntryDiffers => 5,
-            LogEmpty | LastTermNotBelow | ABeginning | NothingPasses | QueueEmpty => 5,
-            LogFull => 6,
-            TermAtLimit | WallClockAtLimit | TickAtLimit => 7,
-            AppliedTimeBefore | CommitTimeBefore | CommitPointBelow | FewerThanCount => 8,
-            CommonBelowCommitPoint => 9,
-            NoEntry | OtherTerm => 10,
-        }
-    }
-}
-
-/// One test of a kind's list; the first that applies is the answer.
-fn refuse_if(applies: bool, condition: Condition) -> Result<(), Condition> {
-    if applies { Err(condition) } else { Ok(()) }
-}
-
 impl Time {
     pub const ZERO: Time = Time { p: 0, l: 0 };
 
     /// None where l would have to pass its limit.
-    fn tick(self, wall_clock: u16) -> Option<Time> {
+    pub fn tick(self, wall_clock: u16) -> Option<Time> {
         if self.p >= wall_clock {
             self.l.checked_add(1).map(|l| Time { p: self.p, l })
         } else {
@@ -293,6 +222,12 @@ impl Server {
 
     pub fn commit_time(&self) -> Time {
         self.log.time_at(self.commit_point)
+    }
+
+    /// Whether a client's clock is further ahead than a sound one would be, in numbers wide enough
+    /// for a sum that is past what a clock can show.
+    pub fn is_outrun_by(&self, client: Time) -> bool {
+        u32::from(client.p) > u32::from(self.wall_clock) + u32::from(AHEAD_MAX)
     }
 
     /// What a pull and a rollback take over besides the log.
@@ -414,6 +349,8 @@ impl Cluster {
     }
 }
 
+#[path = "conditions.rs"]
+mod conditions;
 #[path = "kinds.rs"]
 pub mod kinds;
 #[path = "reports.rs"]

@@ -1,6 +1,7 @@
 //! Record-level tests of the model: document 01's twelve facts, and the cases that no lines reach
 //! from a fresh start. Those of kinds 14 and 15 are in `newest_tests.rs`, those of reports in
-//! `reports_tests.rs`, those of the saved form in `saved_tests.rs`.
+//! `reports_tests.rs`, those of clients' times in `phones_tests.rs`, those of the saved form in
+//! `saved_tests.rs`.
 
 use super::*;
 use crate::saved::{Refusal, save};
@@ -145,17 +146,6 @@ fn a_rollback_below_the_commit_point_is_refusal_9() {
     let kept = Server { commit_point: 1, ..holding(&[1, 2]) };
     let rolled = after(&[kept, holding(&[1, 3])], Step::RollsBack { a: 0, b: 1 });
     assert_eq!(rolled.servers[0].commit_point, 1);
-}
-
-#[test]
-fn a_write_that_must_raise_l_past_its_limit_is_refusal_7() {
-    let writes = Step::Writes { a: 0, key: 0, value: 1 };
-    let condition = refused(&[primary(1, &[1]), holding(&[])], writes);
-    assert_eq!((condition, condition.number()), (TickAtLimit, 7));
-    assert_eq!(refused(&[primary(1, &[1; ENTRIES]), holding(&[])], writes), LogFull);
-    let early = Server { cluster_time: Time { p: 1, l: 65_535 }, wall_clock: 2, ..primary(1, &[]) };
-    let written = after(&[early, holding(&[])], writes);
-    assert_eq!(written.servers[0].cluster_time, Time { p: 2, l: 0 });
 }
 
 #[test]
@@ -338,14 +328,15 @@ const BROKEN: &[fn(&mut Cluster)] = &[
     |c| c.servers[6].log.entries[31].time.l = 1,
 ];
 
-/// One step of each kind that looks at the record.
-const LOOKING: [Step; 16] = [
+/// One step of each kind that looks at the record, and a write that carries a time.
+const LOOKING: [Step; 17] = [
     Step::Elect { a: 0, set: 3 },
     Step::StepDown { a: 0 },
     Step::Hears { a: 0, b: 1 },
     Step::Pulls { a: 1, b: 0 },
     Step::RollsBack { a: 1, b: 0 },
-    Step::Writes { a: 0, key: 0, value: 1 },
+    Step::Writes { a: 0, key: 0, value: 1, client: Time::ZERO },
+    Step::Writes { a: 0, key: 0, value: 1, client: Time { p: 601, l: 65_534 } },
     Step::Advances { a: 0 },
     Step::WallClock { a: 0 },
     Step::Restarts { a: 0 },
@@ -410,6 +401,8 @@ fn every_step_from_an_odd_record_keeps_it_well_formed() {
 
 #[path = "newest_tests.rs"]
 mod newest;
+#[path = "phones_tests.rs"]
+mod phones;
 #[path = "reports_tests.rs"]
 mod reported;
 #[path = "saved_tests.rs"]

@@ -56,7 +56,7 @@ fn kind_14_appends_one_stamped_entry_and_changes_nothing_else() {
 
 #[test]
 fn kind_14_and_a_write_differ_in_key_and_value_alone() {
-    let write = Step::Writes { a: 0, key: 15, value: 65_535 };
+    let write = Step::Writes { a: 0, key: 15, value: 65_535, client: Time::ZERO };
     assert_eq!(answered(leader(), NOTHING), answered(leader(), write));
     let [nothing, written] = [NOTHING, write].map(|taken| after(&[leader(), leader()], taken));
     assert_eq!(nothing.servers[0], nothing_at(&written.servers[0], 5));
@@ -149,7 +149,7 @@ fn the_key_of_nothing_is_neither_written_nor_read() {
     let server = nothing_at(&leader(), 3);
     let time = Time::ZERO;
     let of_key = |key: u8| {
-        let write = Step::Writes { a: 0, key, value: 1 };
+        let write = Step::Writes { a: 0, key, value: 1, client: time };
         let reads = [Step::LocalRead { a: 0, key, time }, Step::MajorityRead { a: 0, key, time }];
         [write, reads[0], reads[1], newest(key, 3, 2)]
     };

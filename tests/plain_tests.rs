@@ -60,6 +60,19 @@ fn the_printed_session() {
     is_answered(&session);
 }
 
+/// README's other sessions.
+#[test]
+fn the_samples() {
+    let samples = [
+        (include_str!("../samples/newest"), include_str!("../samples/newest.answers")),
+        (include_str!("../samples/reports"), include_str!("../samples/reports.answers")),
+        (include_str!("../samples/phones"), include_str!("../samples/phones.answers")),
+    ];
+    for (steps, printed) in samples {
+        assert_eq!(answers(steps.as_bytes()), printed);
+    }
+}
+
 /// A write is covered under one primary, another wins and asks for the newest value; the one
 /// that it has overtaken asks too and is never answered about what it appends now.
 #[test]

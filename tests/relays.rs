@@ -37,7 +37,7 @@ impl Run {
     }
 
     /// Elects a by these, after it heard of their latest term.
-    fn elect_by(&mut self, a: u8, set: u8) {
+    pub(super) fn elect_by(&mut self, a: u8, set: u8) {
         let b = self.with_most(set, |server| server.term);
         if self.at(b).term > self.at(a).term {
             self.offer(Step::Hears { a, b });
@@ -46,8 +46,7 @@ impl Run {
     }
 
     fn some_entry(&mut self, a: u8) {
-        let entry = self.entry_by(a);
-        self.offer(entry);
+        self.offer_entry(a);
         self.write_some(a);
     }
 
@@ -165,8 +164,7 @@ impl Run {
         }
         for times in 0..1 + self.prng.below(2) {
             self.elect_by(right, without_wrong);
-            let entry = self.entry_by(right);
-            self.offer(entry);
+            self.offer_entry(right);
             for &a in others[1..].iter().filter(|_| times == 0) {
                 let b = self.prng.pick(&[right, wrong, wrong, wrong]);
                 self.come_after(a, b);

@@ -444,15 +444,15 @@ fn all_told(record: &Cluster) -> Vec<(Notes, Queue, Option<usize>)> {
 #[test]
 fn no_other_kind_touches_notes_queues_or_sources() {
     let early = busy().map(|server| Server { cluster_time: Time { p: 9, l: 9 }, ..server });
-    let mut kinds = 0;
+    let mut steps = 0;
     for taken in LOOKING.iter().filter(|step| ![1, 4, 5, 9, 16].contains(&step.kind())) {
         let mut record = cluster(&early);
         record.servers[0].commit_point = if *taken == ADVANCES { 0 } else { 2 };
         assert_eq!(take(&mut record, *taken).err(), None, "{taken:?}");
         assert_eq!(all_told(&record), all_told(&cluster(&early)), "{taken:?}");
-        kinds += 1;
+        steps += 1;
     }
-    assert_eq!(kinds, 11);
+    assert_eq!(steps, 12);
 }
 
 /// `take` sees to what is promised of every well-formed record.

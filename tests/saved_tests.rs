@@ -62,7 +62,7 @@ fn example() -> String {
 #[test]
 fn the_example_line_by_line() {
     let mut record = Cluster::ZERO;
-    let writes = Step::Writes { a: 0, key: 5, value: 41 };
+    let writes = Step::Writes { a: 0, key: 5, value: 41, client: Time::ZERO };
     let pulls = Step::Pulls { a: 1, b: 0 };
     let elects = Step::Elect { a: 0, set: 3 };
     for taken in [Step::Start { servers: 3 }, elects, writes, pulls, Step::TakesReport { a: 0 }] {

@@ -6,6 +6,7 @@ mod frames;
 mod junk;
 mod lines;
 mod model;
+mod phones;
 mod prng;
 mod relays;
 #[cfg(test)]
@@ -196,6 +197,7 @@ impl Run {
                 1..=15 => self.split(),
                 16..=55 => self.replicate(),
                 56..=65 => self.relay(),
+                66..=77 => self.phones(),
                 _ => self.ordinary(),
             }
         }
@@ -235,12 +237,16 @@ impl Run {
         a
     }
 
+    fn offer_entry(&mut self, a: u8) {
+        let entry = self.entry_by(a);
+        self.offer(entry);
+    }
+
     /// A few entries, or rarely as many as the log takes.
     fn write_some(&mut self, a: u8) {
         let entries = if self.prng.one_in(100) { ENTRIES } else { self.prng.below(3) };
         for _ in 0..entries {
-            let entry = self.entry_by(a);
-            self.offer(entry);
+            self.offer_entry(a);
         }
     }
 
@@ -340,8 +346,7 @@ impl Run {
         self.offer(Step::Hears { a: old, b: latest });
         let new = self.elect_of(everyone & !(1 << old));
         for a in std::iter::once(new).chain((kept..ENTRIES).map(|_| old)) {
-            let entry = self.entry_by(a);
-            self.offer(entry);
+            self.offer_entry(a);
         }
         self.offer(Step::Hears { a: old, b: new });
         self.offer(Step::RollsBack { a: old, b: new });
@@ -355,6 +360,7 @@ impl Run {
     fn raise_wall_clock(&mut self) {
         let a = self.with_most(self.everyone(), |server| server.wall_clock);
         self.offer(Step::WallClock { a });
+        self.near_the_end(a);
     }
 
     /// A session up to a limit; few other steps are on the way, so that logs aren't full there.

@@ -2,6 +2,7 @@
 //! and loaded.
 
 use super::*;
+use model::AHEAD_MAX;
 use model::reports::REPORTS;
 use saved::{load, save};
 
@@ -17,19 +18,28 @@ fn every_drawn_step_is_read_back() {
     }
 }
 
-/// A full log, a full queue, notes of most servers, a source, an entry that writes nothing.
-const SORTS: [fn(&Server) -> bool; 5] = [
+/// A full log, a full queue, notes of most servers, a source, an entry that writes nothing, a cluster
+/// time that a client brought past the wall clock, and one that it brought to the last l.
+const SORTS: [fn(&Server) -> bool; 7] = [
     |server| server.log.length == ENTRIES,
     |server| server.queue.length == REPORTS,
     |server| server.notes.iter().filter(|note| note.is_used()).count() > 3,
     |server| server.source.is_some(),
     |server| server.log.entries.iter().any(|entry| entry.writes_nothing()),
+    |server| server.cluster_time.p > server.wall_clock,
+    |server| server.cluster_time.l == u16::MAX,
 ];
+
+/// A run of some sessions.
+fn sessions(seed: u64) -> Run {
+    let mut run = Run::new(seed);
+    (0..40).for_each(|_| run.session(usize::MAX));
+    run
+}
 
 #[test]
 fn records_on_the_way_are_loaded_as_they_were_saved() {
-    let mut run = Run::new(1);
-    (0..40).for_each(|_| run.session(usize::MAX));
+    let mut run = sessions(1);
     let (mut cluster, mut seen) = (Cluster::ZERO, [0; SORTS.len()]);
     for line in run.text.split(|&character| character == b'\n') {
         let _ = read_line(line).and_then(|read| step(&mut cluster, &read));
@@ -44,6 +54,29 @@ fn records_on_the_way_are_loaded_as_they_were_saved() {
     }
     assert_eq!(cluster, run.cluster);
     assert_eq!(seen.map(|times| times > 0), [true; SORTS.len()], "{seen:?}");
+}
+
+/// How far the latest p of all is above the greatest wall clock; no entry is after its server's
+/// cluster time.
+fn ahead_of_clocks(cluster: &Cluster) -> u16 {
+    let greatest = |of: fn(&Server) -> u16| cluster.counted().iter().map(of).max().unwrap_or(0);
+    greatest(|server| server.cluster_time.p).saturating_sub(greatest(|server| server.wall_clock))
+}
+
+#[test]
+fn stamps_are_after_what_clients_saw_and_never_too_far_ahead() {
+    let run = sessions(2);
+    let (mut cluster, mut farthest) = (Cluster::ZERO, 0);
+    for line in run.text.split(|&character| character == b'\n') {
+        let Ok(read) = read_line(line) else { continue };
+        let before = cluster;
+        let answer = step(&mut cluster, &read);
+        if let (Step::Writes { a, client, .. }, Ok(numbers)) = (read, answer) {
+            assert!(numbers.time > client.max(before.servers[usize::from(a)].cluster_time));
+        }
+        farthest = farthest.max(ahead_of_clocks(&cluster));
+    }
+    assert_eq!(farthest, AHEAD_MAX);
 }
 
 /// A text with a digit changed is another record's or none's.

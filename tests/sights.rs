@@ -7,6 +7,11 @@ use crate::model::{Answer, Cluster, Condition, Condition::*, Entry, Role::*, SER
 use crate::model::{Server, Step};
 use std::cmp::Ordering::{self, *};
 
+#[path = "stamps.rs"]
+mod stamps;
+
+pub use self::stamps::Strays;
+
 /// A step with its answer and the record on both sides of it.
 pub struct Taken<'a> {
     pub step: Step,
@@ -15,6 +20,7 @@ pub struct Taken<'a> {
     pub after: &'a Cluster,
     /// How often the report that was taken has now been passed on, if it was this time.
     pub passed_on: usize,
+    pub strays: &'a Strays,
 }
 
 /// A kind, how its step ended, a name, and whether it is to be seen in such a step.
@@ -23,7 +29,15 @@ pub type Sight = (usize, Result<(), Condition>, &'static str, fn(&Taken) -> bool
 const DONE: Result<(), Condition> = Ok(());
 const NONE_PASSES: Result<(), Condition> = Err(NothingPasses);
 
-pub const SIGHTS: &[Sight] = &[
+/// How many sights there are.
+pub const COUNT: usize = SIGHTS.len() + stamps::SIGHTS.len();
+
+pub fn sights() -> impl Iterator<Item = &'static Sight> {
+    SIGHTS.iter().chain(stamps::SIGHTS)
+}
+
+/// Those of reports, and of reads and commit points that go by them.
+const SIGHTS: &[Sight] = &[
     (1, DONE, "with notes to empty", |t| has_notes(t.a())),
     (1, DONE, "with reports to empty", |t| has_reports(t.a())),
     (1, DONE, "with a source to keep", |t| t.a().source.is_some()),

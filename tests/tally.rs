@@ -2,7 +2,7 @@
 //! whether everything that lines can reach was reached.
 
 use crate::model::{Answer, CONDITIONS, Cluster, Condition, Condition::*, KINDS, Step};
-use crate::sights::{SIGHTS, Sight, Taken, Trails};
+use crate::sights::{COUNT, Sight, Strays, Taken, Trails, sights};
 use std::io::{self, Write};
 
 /// One row a kind, and a last one for lines that are no frame.
@@ -61,6 +61,7 @@ const LISTS: [(&str, &[Condition]); ROWS] = [
             KeyOfNothing,
             KeyAbove15,
             ValueZero,
+            ClockAhead,
             NotPrimary,
             LogFull,
             TickAtLimit,
@@ -109,31 +110,27 @@ const LISTS: [(&str, &[Condition]); ROWS] = [
     ("no frame", &[WrongLength, WrongCharacter, UnknownKind, UnusedByte]),
 ];
 
-/// What no lines reach from a fresh start, and above each the reason.
-const UNREACHABLE: [(usize, Condition); 3] = [
+/// What no lines reach from a fresh start, and above it the reason.
+const UNREACHABLE: [(usize, Condition); 1] = [
     // Demand 3: committed entries stay with a majority and with every log of a later last term.
     (5, CommonBelowCommitPoint),
-    // A write or kind 14 raises l by one at most and makes a log never held before; nothing else
-    // does either. A log only gives way to one that isn't behind it, and elections need majorities,
-    // so that seven servers can make no more than C(36, 4) - 1 = 58,904 logs of up to 32 entries,
-    // whatever these write (counted by hand, not proved).
-    (6, TickAtLimit),
-    (14, TickAtLimit),
 ];
 
 pub struct Tally {
     done: [u64; ROWS],
     refused: [[u64; CONDITIONS]; ROWS],
-    seen: [u64; SIGHTS.len()],
+    seen: [u64; COUNT],
     trails: Trails,
+    strays: Strays,
 }
 
 impl Tally {
     pub const NONE: Tally = Tally {
         done: [0; ROWS],
         refused: [[0; CONDITIONS]; ROWS],
-        seen: [0; SIGHTS.len()],
+        seen: [0; COUNT],
         trails: Trails::NONE,
+        strays: Strays::NONE,
     };
 
     /// Counts the answer to a line, whose step is none where it is no frame; the clusters are those
@@ -146,11 +143,12 @@ impl Tally {
         }
         let Some(step) = step else { return };
         let passed_on = if answer.is_ok() { self.trails.follow(&step, after) } else { 0 };
-        let taken = Taken { step, answer, before, after, passed_on };
-        for (times, (kind, ended, _, is_seen)) in self.seen.iter_mut().zip(SIGHTS) {
+        let taken = Taken { step, answer, before, after, passed_on, strays: &self.strays };
+        for (times, (kind, ended, _, is_seen)) in self.seen.iter_mut().zip(sights()) {
             let applies = *kind == row && *ended == answer.map(|_| ());
             *times += u64::from(applies && is_seen(&taken));
         }
+        self.strays.follow(&step, answer);
     }
 
     /// The names of the sights in steps of a row that ended so, and how often each was seen.
@@ -160,7 +158,7 @@ impl Tally {
         ended: Result<(), Condition>,
     ) -> impl Iterator<Item = (&'static str, u64)> + '_ {
         let applies = move |(sight, _): &(&Sight, &u64)| (sight.0, sight.1) == (row, ended);
-        SIGHTS.iter().zip(&self.seen).filter(applies).map(|(sight, times)| (sight.2, *times))
+        sights().zip(&self.seen).filter(applies).map(|(sight, times)| (sight.2, *times))
     }
 
     /// Writes the tally, then what is amiss; true where nothing is.
@@ -204,7 +202,7 @@ impl Tally {
 
     /// Everything that should have occurred and didn't, or the other way round.
     fn amiss(&self) -> Vec<String> {
-        let unseen = SIGHTS.iter().zip(&self.seen).filter(|(_, times)| **times == 0);
+        let unseen = sights().zip(&self.seen).filter(|(_, times)| **times == 0);
         let never = |(kind, ended, sight, _): &Sight| {
             let how =
                 ended.map_or_else(|condition| format!("{condition:?}"), |()| "done".to_string());
