@@ -39,9 +39,9 @@ use Rattle.singles.specs.WritesNothing.{nothingDone}
 use Rattle.singles.specs.StepsDown.{downDone}
 use Rattle.singles.specs.WallClock.{clockDone}
 use Rattle.singles.specs.Restarts.{restartsOf}
-use Rattle.singles.specs.LocalRead.{localDone}
-use Rattle.singles.specs.MajorityRead.{majorityDone}
-use Rattle.singles.specs.NewestRead.{newestDone}
+use Rattle.reads.specs.LocalRead.{localDone}
+use Rattle.reads.specs.MajorityRead.{majorityDone}
+use Rattle.reads.specs.NewestRead.{newestDone}
 use Rattle.singles.specs.TakesReport.{takeDone}
 use Rattle.wholes.specs.Elects.{newTerm}
 use Rattle.wholes.specs.ClocksAgree.{greatestClock}
@@ -54,58 +54,59 @@ use Rattle.safety.specs.Promise.{runOf, StepsFrom, momentOf}
 use Rattle.safety.specs.Clocks.{ClocksHeld, NotFallen, ClocksPromised}
 use Rattle.safety.proofs.Views.{fresh-each}
 
+-- no wall clock is above the greatest
+clock-le : (c : Cluster) (i : ℕ) → i < serverCount c → serverAt c i .head .wall ≤ greatestClock c
+clock-le c = greatest-above (λ j. serverAt c j .head .wall) (serverCount c)
+
 -- ---- what each kind does to the clocks
 
 -- t's wall clock is not below s's, and the p of its cluster time is not above m
-abbrev Kept : ℕ → Server → Server → Type 0
-Kept m s t = (s .head .wall ≤ t .head .wall) × (t .head .time .p ≤ m)
+abbrev ClockKept : ℕ → Server → Server → Type 0
+ClockKept m s t = (s .head .wall ≤ t .head .wall) × (t .head .time .p ≤ m)
 
 -- so it is of every server from c to d
-record AllKept (m : ℕ) (c d : Cluster) : Type 0 where
+record ClocksKept (m : ℕ) (c d : Cluster) : Type 0 where
   count : d .count ≡ c .count
-  each : (i : ℕ) → Kept m (serverAt c i) (serverAt d i)
+  each : (i : ℕ) → ClockKept m (serverAt c i) (serverAt d i)
 
 -- an applied time is not past the cluster time
 applied-p : {s : Server} → ServerGood s → appliedTime (live (s .log)) .p ≤ s .head .time .p
 applied-p {s} g = not-before (appliedTime (live (s .log))) (s .head .time) (g .last-time) .le
 
 module _ (c : Cluster) (g : Good c) (m : ℕ) (walls : (i : ℕ) → i < serverCount c → serverAt c i .head .wall + mostAhead ≤ m) (times : (i : ℕ) → serverAt c i .head .time .p ≤ m) where
-  same : (i : ℕ) → Kept m (serverAt c i) (serverAt c i)
+  same : (i : ℕ) → ClockKept m (serverAt c i) (serverAt c i)
   same i = (omega arith, times i)
 
-  put : (a : ℕ) (t : Server) → Kept m (serverAt c a) t → AllKept m c (withServer c a t)
+  put : (a : ℕ) (t : Server) → ClockKept m (serverAt c a) t → ClocksKept m c (withServer c a t)
   put a t h =
-      record { count = refl; each = λ i. put-either (Kept m (serverAt c i)) c a t i (λ e. subst (λ (k : ℕ). Kept m (serverAt c k) t) (sym e) h) (same i) }
+      record { count = refl; each = λ i. put-either (ClockKept m (serverAt c i)) c a t i (λ e. subst (λ (k : ℕ). ClockKept m (serverAt c k) t) (sym e) h) (same i) }
 
-  back : (a : ℕ) (o : Stepped) → Kept m (serverAt c a) (o .server) → AllKept m c (putBack c a o .cluster)
+  back : (a : ℕ) (o : Stepped) → ClockKept m (serverAt c a) (o .server) → ClocksKept m c (putBack c a o .cluster)
   back a o h =
       let d = withServer c a (o .server) in
       record {
         count = delivered-count d (o .sends);
-        each = λ i. subst (Kept m (serverAt c i)) (sym (delivered-queue d (o .sends) i)) (put a (o .server) h .each i);
+        each = λ i. subst (ClockKept m (serverAt c i)) (sym (delivered-queue d (o .sends) i)) (put a (o .server) h .each i);
       }
 
-  elected : (a k : ℕ) → AllKept m c (electedAll c a k (newTerm c a))
+  elected : (a k : ℕ) → ClocksKept m c (electedAll c a k (newTerm c a))
   unfolding votedOf
-  elected a k = record { count = refl; each = λ i. changed-either (Kept m (serverAt c i)) (votedOf a k (newTerm c a)) c i (go i (member k i)) (same i) }
+  elected a k = record { count = refl; each = λ i. changed-either (ClockKept m (serverAt c i)) (votedOf a k (newTerm c a)) c i (go i (member k i)) (same i) }
     where
-      go : (i : ℕ) (b : Bool) → Kept m (serverAt c i) (cond b (officeOf (serverAt c i) (newTerm c a) (eqb i a)) (serverAt c i))
+      go : (i : ℕ) (b : Bool) → ClockKept m (serverAt c i) (cond b (officeOf (serverAt c i) (newTerm c a) (eqb i a)) (serverAt c i))
       go i true = same i
       go i false = same i
 
-  agreed : AllKept m c (clocksSet c (greatestClock c))
+  agreed : ClocksKept m c (clocksSet c (greatestClock c))
   unfolding clockedOf
   agreed =
       record {
         count = refl;
-        each = λ i. changed-either (Kept m (serverAt c i)) (clockedOf (c .count) (greatestClock c)) c i (go i (ltb i (c .count)) refl) (same i);
+        each = λ i. changed-either (ClockKept m (serverAt c i)) (clockedOf (c .count) (greatestClock c)) c i (go i (ltb i (c .count)) refl) (same i);
       }
     where
-      go : (i : ℕ) (b : Bool) → ltb i (c .count) ≡ b → Kept m (serverAt c i) (cond b (wallOf (serverAt c i) (greatestClock c)) (serverAt c i))
-      go i true e = (
-        greatest-above (λ j. serverAt c j .head .wall) (serverCount c) i (omega (arith, ltb-true i (c .count) e, g .at-most-seven)),
-        times i,
-      )
+      go : (i : ℕ) (b : Bool) → ltb i (c .count) ≡ b → ClockKept m (serverAt c i) (cond b (wallOf (serverAt c i) (greatestClock c)) (serverAt c i))
+      go i true e = (clock-le c i (omega (arith, ltb-true i (c .count) e, g .at-most-seven)), times i)
       go i false e = same i
 
   -- the later of two cluster times
@@ -116,7 +117,7 @@ module _ (c : Cluster) (g : Good c) (m : ℕ) (walls : (i : ℕ) → i < serverC
   stamped : (a : ℕ) (from : Time) → a < serverCount c → from .p ≤ m → Clear (appendRules (serverAt c a) from) → stampFrom (serverAt c a) from .p ≤ m
   stamped a from l h k = omega (arith, walls a l, tick-p (serverAt c a .head .wall) from _ (ticked (serverAt c a) from k))
 
-  done-kept : (s : Step) → (isStart s ≡ true → doneOf c s .answer ≢ Done) → Clear (rulesOf c s) → AllKept m c (doneOf c s .cluster)
+  done-kept : (s : Step) → (isStart s ≡ true → doneOf c s .answer ≢ Done) → Clear (rulesOf c s) → ClocksKept m c (doneOf c s .cluster)
   unfolding rowOf heardOf tookOf stampedOf
   done-kept (Start n) no-start k = absurd (no-start refl refl)
   done-kept (Elect a v) no-start k = elected a v
@@ -142,13 +143,13 @@ module _ (c : Cluster) (g : Good c) (m : ℕ) (walls : (i : ℕ) → i < serverC
   done-kept (NewestRead a key n term) no-start k = back a (newestDone (serverAt c a) key n) (same a)
   done-kept (TakesReport a) no-start k = back a (takeDone (serverAt c a)) (same a)
 
-  step-kept : (s : Step) → (isStart s ≡ true → stepOf c s .answer ≢ Done) → AllKept m c (stepOf c s .cluster)
+  step-kept : (s : Step) → (isStart s ≡ true → stepOf c s .answer ≢ Done) → ClocksKept m c (stepOf c s .cluster)
   step-kept s no-start = ⊎-elim is-done (λ d. by (d .is) (record { count = refl; each = same })) (step-cases c s)
     where
-      by : {o : Outcome} → stepOf c s ≡ o → AllKept m c (o .cluster) → AllKept m c (stepOf c s .cluster)
-      by e x = subst (λ (o : Outcome). AllKept m c (o .cluster)) (sym e) x
+      by : {o : Outcome} → stepOf c s ≡ o → ClocksKept m c (o .cluster) → ClocksKept m c (stepOf c s .cluster)
+      by e x = subst (λ (o : Outcome). ClocksKept m c (o .cluster)) (sym e) x
 
-      is-done : StepDone c s → AllKept m c (stepOf c s .cluster)
+      is-done : StepDone c s → ClocksKept m c (stepOf c s .cluster)
       is-done d = by (d .is) (done-kept s (λ q a. no-start q (ap (λ (o : Outcome). o .answer) (d .is) ∙ a)) (d .clear))
 
 -- ---- runs
@@ -159,11 +160,8 @@ record InTime (c : Cluster) : Type 0 where
   good : Good c
   times : (i : ℕ) → serverAt c i .head .time .p ≤ greatestClock c + mostAhead
 
-clock-le : (c : Cluster) (i : ℕ) → i < serverCount c → serverAt c i .head .wall ≤ greatestClock c
-clock-le c = greatest-above (λ j. serverAt c j .head .wall) (serverCount c)
-
 -- the greatest of clocks that have not fallen has not
-not-fallen : {m : ℕ} {x y : Cluster} → AllKept m x y → NotFallen x y
+not-fallen : {m : ℕ} {x y : Cluster} → ClocksKept m x y → NotFallen x y
 not-fallen {m} {x} {y} h =
     record {
       each = λ i. h .each i .0;
