@@ -7,6 +7,7 @@ pub mod Cluster
 pub mod Steps
 pub mod Pairs
 pub mod Singles
+pub mod Asks
 pub mod Wholes
 pub mod Counts
 pub mod Rules

@@ -21,9 +21,9 @@ use Rattle.singles.specs.StepsDown.{downRules}
 use Rattle.singles.specs.WallClock.{clockRules}
 use Rattle.singles.specs.WritesNothing.{nothingRules}
 use Rattle.singles.specs.Writes.{writeRules}
-use Rattle.singles.specs.LocalRead.{localRules}
-use Rattle.singles.specs.MajorityRead.{majorityRules}
-use Rattle.singles.specs.NewestRead.{newestRules}
+use Rattle.reads.specs.LocalRead.{localRules}
+use Rattle.reads.specs.MajorityRead.{majorityRules}
+use Rattle.reads.specs.NewestRead.{newestRules}
 use Rattle.frames.specs.declared.ReadStep.{ReadStep}
 use Rattle.frames.specs.declared.ReadStep.the-variants as R
 use Rattle.rules.specs.Rules.{delivered, isStart, coreOf, stepOf, putBack}

@@ -21,9 +21,9 @@ use Rattle.singles.specs.StepsDown.{downRules, downDone}
 use Rattle.singles.specs.WallClock.{clockRules, clockDone}
 use Rattle.singles.specs.Writes.{writeRules, writeDone}
 use Rattle.singles.specs.WritesNothing.{nothingRules, nothingDone}
-use Rattle.singles.specs.LocalRead.{localRules, localDone}
-use Rattle.singles.specs.MajorityRead.{majorityRules, majorityDone}
-use Rattle.singles.specs.NewestRead.{newestRules, newestDone}
+use Rattle.reads.specs.LocalRead.{localRules, localDone}
+use Rattle.reads.specs.MajorityRead.{majorityRules, majorityDone}
+use Rattle.reads.specs.NewestRead.{newestRules, newestDone}
 use Rattle.singles.specs.TakesReport.{takeRules, takeDone}
 use Rattle.rules.specs.Rules.{delivered, rowOf, bothInRange, putBack, coreOf}
 use Rattle.rules.specs.One.{oneOf, singleOf, pairOf}

@@ -22,9 +22,9 @@ use Rattle.singles.specs.WallClock.{wallClockOf}
 use Rattle.singles.specs.Restarts.{restartsOf}
 use Rattle.singles.specs.Writes.{writesOf}
 use Rattle.singles.specs.WritesNothing.{writesNothingOf}
-use Rattle.singles.specs.LocalRead.{localReadOf}
-use Rattle.singles.specs.MajorityRead.{majorityReadOf}
-use Rattle.singles.specs.NewestRead.{newestReadOf}
+use Rattle.reads.specs.LocalRead.{localReadOf}
+use Rattle.reads.specs.MajorityRead.{majorityReadOf}
+use Rattle.reads.specs.NewestRead.{newestReadOf}
 use Rattle.singles.specs.TakesReport.{takesReportOf}
 
 -- a step of the whole cluster leaves a server as it is

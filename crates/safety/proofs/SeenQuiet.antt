@@ -21,9 +21,9 @@ use Rattle.pairs.specs.Hears.{takesCommit, heardOf, hearsOf}
 use Rattle.singles.specs.StepsDown.{downDone}
 use Rattle.singles.specs.WallClock.{clockDone}
 use Rattle.singles.specs.Restarts.{restartsOf}
-use Rattle.singles.specs.LocalRead.{localDone}
-use Rattle.singles.specs.MajorityRead.{majorityDone}
-use Rattle.singles.specs.NewestRead.{newestDone}
+use Rattle.reads.specs.LocalRead.{localDone}
+use Rattle.reads.specs.MajorityRead.{majorityDone}
+use Rattle.reads.specs.NewestRead.{newestDone}
 use Rattle.singles.specs.TakesReport.{takeDone}
 use Rattle.wholes.specs.ClocksAgree.{greatestClock}
 use Rattle.rules.specs.Rules.{putBack, rowOf, rulesOf, doneOf}

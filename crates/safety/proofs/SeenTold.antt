@@ -35,9 +35,9 @@ use Rattle.singles.specs.Restarts.{restartsOf}
 use Rattle.singles.specs.Appends.{stampedOf}
 use Rattle.singles.specs.Writes.{writeDone}
 use Rattle.singles.specs.WritesNothing.{nothingDone}
-use Rattle.singles.specs.LocalRead.{localDone}
-use Rattle.singles.specs.MajorityRead.{majorityDone}
-use Rattle.singles.specs.NewestRead.{newestDone}
+use Rattle.reads.specs.LocalRead.{localDone}
+use Rattle.reads.specs.MajorityRead.{majorityDone}
+use Rattle.reads.specs.NewestRead.{newestDone}
 use Rattle.singles.specs.TakesReport.{keepsIt, forwards, oldestOf, takeDone}
 use Rattle.wholes.specs.Elects.{newTerm}
 use Rattle.wholes.specs.ClocksAgree.{greatestClock}

@@ -3,14 +3,11 @@ use Prim.Native.Nat.{ℕ}
 use Rattle.base.proofs.Results.{OneResult, one-result}
 use Rattle.clock.specs.declared.Time.{Time}
 use Rattle.cluster.specs.declared.Server.{Server}
-use Rattle.singles.specs.LocalRead.{localReadOf}
-use Rattle.singles.specs.MajorityRead.{majorityReadOf}
 use Rattle.singles.specs.Restarts.{restartsOf}
 use Rattle.singles.specs.StepsDown.{stepsDownOf}
 use Rattle.singles.specs.TakesReport.{forwards, takesReportOf}
 use Rattle.singles.specs.WallClock.{wallClockOf}
 use Rattle.singles.specs.Appends.{appendsOf, stampDone}
-use Rattle.singles.specs.NewestRead.{newestReadOf}
 use Rattle.singles.specs.Writes.{writesOf}
 use Rattle.singles.specs.WritesNothing.{writesNothingOf}
 use Rattle.singles.proofs.steps_down.steps_down.Reads as steps-down-reads
@@ -20,9 +17,6 @@ use Rattle.singles.proofs.writes.writes.Reads as writes-reads
 use Rattle.singles.proofs.appends.stamped.Reads as stamped-reads
 use Rattle.singles.proofs.appends.appends.Reads as appends-reads
 use Rattle.singles.proofs.writes_nothing.writes_nothing.Reads as writes-nothing-reads
-use Rattle.singles.proofs.local_read.local_read.Reads as local-read-reads
-use Rattle.singles.proofs.majority_read.majority_read.Reads as majority-read-reads
-use Rattle.singles.proofs.newest_read.newest_read.Reads as newest-read-reads
 use Rattle.singles.proofs.takes_report.sends.Reads as sends-reads
 use Rattle.singles.proofs.takes_report.takes_report.Reads as takes-report-reads
 
@@ -46,15 +40,6 @@ stamped s key value time = one-result (stampDone s key value time)
 
 pub appends : (s : Server) (key value : ℕ) (from : Time) → OneResult (λ x. appends-reads.Learnt tt (s, (key, (value, (from, tt)))) x (s, (key, (value, (from, tt)))))
 appends s key value from = one-result (appendsOf s key value from)
-
-pub local-read : (s : Server) (key : ℕ) (asked : Time) → OneResult (λ x. local-read-reads.Learnt tt (s, (key, (asked, tt))) x (s, (key, (asked, tt))))
-local-read s key asked = one-result (localReadOf s key asked)
-
-pub majority-read : (s : Server) (key : ℕ) (asked : Time) → OneResult (λ x. majority-read-reads.Learnt tt (s, (key, (asked, tt))) x (s, (key, (asked, tt))))
-majority-read s key asked = one-result (majorityReadOf s key asked)
-
-pub newest-read : (s : Server) (key n term : ℕ) → OneResult (λ x. newest-read-reads.Learnt tt (s, (key, (n, (term, tt)))) x (s, (key, (n, (term, tt)))))
-newest-read s key n term = one-result (newestReadOf s key n term)
 
 pub sends : (s : Server) → OneResult (λ x. sends-reads.Learnt tt (s, tt) x (s, tt))
 sends s = one-result (forwards s)

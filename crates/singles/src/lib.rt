@@ -1,8 +1,5 @@
-// What a server does by itself: kinds 2, 6, 8, 9, 10, 11, 14, 15 and 16, a module each.
+// What a server does by itself: kinds 2, 6, 8, 9, 14 and 16, a module each.
 pub mod appends;
-pub mod local_read;
-pub mod majority_read;
-pub mod newest_read;
 pub mod restarts;
 pub mod steps_down;
 pub mod takes_report;

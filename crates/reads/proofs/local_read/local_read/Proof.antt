@@ -1,4 +1,4 @@
--- `singles::local_read::local_read` meets its contract. Assumes nothing.
+-- `reads::local_read::local_read` meets its contract. Assumes nothing.
 use Rattle.log.specs.Order.{highestKey}
 use Rattle.log.specs.Logs.{live}
 use Rattle.log.specs.Entries.{appliedTime}
@@ -11,8 +11,8 @@ use lib.ListN.{take}
 use mathlib.Core.Bool.{not}
 use mathlib.Core.Path.{_≡_, ap, sym, _∙_}
 use borrow.Author.Needs.{needs}
-use Rattle.singles.proofs.local_read.local_read.Statement.{statement}
-use Rattle.singles.proofs.local_read.local_read.Tie as tie
+use Rattle.reads.proofs.local_read.local_read.Statement.{statement}
+use Rattle.reads.proofs.local_read.local_read.Tie as tie
 
 -- the test of the time, by what the calls gave
 tested : (c : tie.After-is-before) → c .is-before .result ≡ isBefore (appliedTime (live (c .before .before .before .before .args .s .log))) (c .before .before .before .before .args .asked)

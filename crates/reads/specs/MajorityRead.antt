@@ -12,7 +12,7 @@ use Rattle.steps.specs.declared.Stepped.{Stepped}
 use Rattle.steps.specs.declared.Answer.the-variants.{Value}
 use Rattle.steps.specs.Refusals.{Rules, decided}
 use Rattle.steps.specs.Answers.{refusing}
-use Rattle.singles.specs.LocalRead.{readRules}
+use Rattle.reads.specs.LocalRead.{readRules}
 
 -- the time of the entry at the commit point, (0,0) if that is 0
 abbrev pub commitTime : Server → Time

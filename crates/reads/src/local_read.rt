@@ -1,6 +1,6 @@
 // Kind 10: local read at a.
 ghost use mathlib.Core.Path.{_≡_};
-ghost use Rattle.singles.specs.LocalRead.{localReadOf};
+ghost use Rattle.reads.specs.LocalRead.{localReadOf};
 use clock::Time;
 use cluster::Server;
 use steps::Answer;

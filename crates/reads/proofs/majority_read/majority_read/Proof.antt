@@ -1,5 +1,5 @@
--- `singles::majority_read::majority_read` meets its contract. Assumes nothing.
-use Rattle.singles.specs.MajorityRead.{commitTime}
+-- `reads::majority_read::majority_read` meets its contract. Assumes nothing.
+use Rattle.reads.specs.MajorityRead.{commitTime}
 use Rattle.log.specs.Order.{highestKey}
 use Rattle.clock.specs.Times.{isBefore}
 use Rattle.clock.specs.declared.Time.{Time}
@@ -7,8 +7,8 @@ use borrow.Author.Tests.{le-leb, lt-leb}
 use mathlib.Core.Bool.{not}
 use mathlib.Core.Path.{_≡_, ap, sym, _∙_}
 use borrow.Author.Needs.{needs}
-use Rattle.singles.proofs.majority_read.majority_read.Statement.{statement}
-use Rattle.singles.proofs.majority_read.majority_read.Tie as tie
+use Rattle.reads.proofs.majority_read.majority_read.Statement.{statement}
+use Rattle.reads.proofs.majority_read.majority_read.Tie as tie
 
 -- the test of the time, by what the calls gave
 tested : (c : tie.After-is-before) → c .is-before .result ≡ isBefore (commitTime (c .before .before .before .before .args .s)) (c .before .before .before .before .args .asked)

@@ -1,6 +1,6 @@
 // Kind 15: newest read at a, of the entries up to a position.
 ghost use mathlib.Core.Path.{_≡_};
-ghost use Rattle.singles.specs.NewestRead.{newestReadOf};
+ghost use Rattle.reads.specs.NewestRead.{newestReadOf};
 use cluster::Server;
 use steps::Answer;
 use steps::Refusal;

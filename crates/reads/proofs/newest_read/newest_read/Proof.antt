@@ -1,10 +1,10 @@
--- `singles::newest_read::newest_read` meets its contract. Assumes nothing.
+-- `reads::newest_read::newest_read` meets its contract. Assumes nothing.
 use Rattle.steps.specs.declared.Refusal.{Refusal}
 use Rattle.steps.specs.Reasons.{Clear, Broken, here, later}
 use Rattle.steps.proofs.Decided.{decided-clear, decided-broken}
 use Rattle.steps.specs.Answers.{refusing}
 use Rattle.cluster.specs.declared.Server.{Server}
-use Rattle.singles.specs.NewestRead.{newestRules, newestDone, newestReadOf}
+use Rattle.reads.specs.NewestRead.{newestRules, newestDone, newestReadOf}
 use Rattle.log.specs.Entries.{hasEntry}
 use Rattle.log.specs.Logs.{mayAsk, live}
 use Rattle.log.specs.Order.{highestKey}
@@ -15,8 +15,8 @@ use Prim.Native.Nat.{ℕ}
 use mathlib.Core.Bool.{true}
 use mathlib.Core.Path.{_≡_, sym, _∙_}
 use borrow.Author.Needs.{needs}
-use Rattle.singles.proofs.newest_read.newest_read.Statement.{statement}
-use Rattle.singles.proofs.newest_read.newest_read.Tie as tie
+use Rattle.reads.proofs.newest_read.newest_read.Statement.{statement}
+use Rattle.reads.proofs.newest_read.newest_read.Tie as tie
 
 module _ (s : Server) (key n term : ℕ) where
   refused : {r : Refusal} → Broken (newestRules s key n term) r → refusing s r ≡ newestReadOf s key n term

@@ -1,6 +1,6 @@
 // Kind 11: majority read at a.
 ghost use mathlib.Core.Path.{_≡_};
-ghost use Rattle.singles.specs.MajorityRead.{majorityReadOf};
+ghost use Rattle.reads.specs.MajorityRead.{majorityReadOf};
 use clock::Time;
 use cluster::Server;
 use steps::Answer;

@@ -1,0 +1,2 @@
+-- Laws of the kinds that only ask. Assumes nothing.
+pub mod Results

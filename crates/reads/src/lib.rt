@@ -1,0 +1,4 @@
+// What only asks one server, and changes none: kinds 10, 11 and 15, a module each.
+pub mod local_read;
+pub mod majority_read;
+pub mod newest_read;
