@@ -1,14 +1,12 @@
--- What the definitions of kinds 2, 6, 8, 9, 10, 11, 14, 15 and 16 give where a wrong program differs. Assumes nothing.
+-- What the definitions of kinds 2, 6, 8, 9, 14 and 16 give where a wrong program differs. Assumes nothing.
 use mathlib.Core.Path.{_≡_, refl}
-use mathlib.Core.Bool.{Bool, true, false}
-use mathlib.Core.List.{List, [], _∷_}
+use mathlib.Core.Bool.{true, false}
+use mathlib.Core.List.{[], _∷_}
 use lib.ListN.{replicate}
-use Rattle.base.specs.Numbers.{highest}
-use Prim.Native.Nat.{ℕ}
-use Rattle.clock.specs.Times.{isBefore, tickOf}
-use Rattle.log.specs.declared.Entry.{Entry}
-use Rattle.log.specs.Entries.{entryAt, hasEntry, latestValue}
-use Rattle.log.specs.Logs.{mayAsk, live, appended}
+use Rattle.clock.specs.declared.Time.{Time}
+use Rattle.clock.specs.Times.{isBefore, laterOf, tickOf}
+use Rattle.log.specs.Entries.{entryAt}
+use Rattle.log.specs.Logs.{live, appended}
 use Rattle.mail.specs.declared.Report.{Report}
 use Rattle.mail.specs.Reports.{zeroNote, noteOf, givesWay}
 use Rattle.mail.specs.Queues.{oldestTaken}
@@ -16,20 +14,17 @@ use Rattle.mail.specs.Mails.{zeroMail, noteAt, withSource, noted}
 use Rattle.cluster.specs.declared.Server.{Server}
 use Rattle.cluster.specs.Servers.{withMail, freshServer}
 use Rattle.steps.specs.declared.Sends.the-variants.{Nothing, To}
-use Rattle.steps.specs.declared.Answer.{Answer}
-use Rattle.steps.specs.declared.Answer.the-variants.{Value, Refused}
-use Rattle.steps.specs.declared.Refusal.the-variants.{OutOfRange, WrongRole, ConditionUnmet, LogFull, AtLimit, NotYet, NoSuchEntry}
+use Rattle.steps.specs.declared.Stepped.{Stepped}
+use Rattle.steps.specs.declared.Answer.the-variants.{Entry, Refused}
+use Rattle.steps.specs.declared.Refusal.the-variants.{OutOfRange, WrongRole, ConditionUnmet, LogFull, AtLimit, ClockAhead}
 use Rattle.singles.specs.StepsDown.{stepsDownOf}
 use Rattle.singles.specs.WallClock.{wallClockOf}
 use Rattle.singles.specs.Restarts.{restartsOf}
 use Rattle.singles.specs.Appends.{stampedOf, stampDone, appendsOf}
 use Rattle.singles.specs.Writes.{writesOf}
 use Rattle.singles.specs.WritesNothing.{writesNothingOf}
-use Rattle.singles.specs.LocalRead.{localReadOf}
-use Rattle.singles.specs.MajorityRead.{majorityReadOf}
-use Rattle.singles.specs.NewestRead.{newestReadOf}
 use Rattle.singles.specs.TakesReport.{forwards, takesReportOf}
-use Rattle.apart.proofs.Things.{at, x, z, f, g, h, noting, holding, server, holder, leader, covering, clocked, timed}
+use Rattle.apart.proofs.Things.{at, x, f, g, h, noting, holding, server, leader, covering, clocked, timed}
 
 pub steps-down-and-stays-primary : stepsDownOf (leader []) .server .head .primary ≡ false
 steps-down-and-stays-primary = refl
@@ -65,6 +60,36 @@ writes-key-sixteen = refl
 pub role-before-range : writesOf freshServer 16 1 (at 0 0) .answer ≡ Refused OutOfRange
 role-before-range = refl
 
+-- a write of key 5, value 41, for a client that carries this time
+abbrev written : Server → Time → Stepped
+written s client = writesOf s 5 41 client
+
+pub the-clients-time-is-ignored : written (leader []) (at 9 0) .answer ≡ Entry 1 1 (at 9 1)
+unfolding isBefore laterOf tickOf appended
+the-clients-time-is-ignored = refl
+
+pub an-earlier-clients-time-is-taken : written (server 1 true 0 1 (at 9 0) []) (at 3 0) .answer ≡ Entry 1 1 (at 9 1)
+unfolding isBefore laterOf tickOf appended
+an-earlier-clients-time-is-taken = refl
+
+pub six-hundred-ahead-is-refused : written (leader []) (at 601 0) .answer ≡ Entry 1 1 (at 601 1)
+unfolding isBefore laterOf tickOf appended
+six-hundred-ahead-is-refused = refl
+
+pub the-bound-wraps : written (server 1 true 0 65000 (at 0 0) []) (at 65535 0) .answer ≡ Entry 1 1 (at 65535 1)
+unfolding isBefore laterOf tickOf appended
+the-bound-wraps = refl
+
+pub role-before-the-clock : written freshServer (at 602 0) .answer ≡ Refused ClockAhead
+role-before-the-clock = refl
+
+pub a-refused-write-takes-the-time : written freshServer (at 9 0) .server .head .time ≡ at 0 0
+a-refused-write-takes-the-time = refl
+
+pub the-wall-clock-moves : written (leader []) (at 9 0) .server .head .wall ≡ 1
+unfolding isBefore laterOf tickOf stampedOf
+the-wall-clock-moves = refl
+
 pub stamped-with-the-old-time : entryAt (live (stampDone (timed (at 1 0)) 5 41 (at 2 0) .server .log)) 1 .time ≡ at 2 0
 unfolding entryAt appended stampedOf
 stamped-with-the-old-time = refl
@@ -77,6 +102,10 @@ pub nothing-without-a-tick : appendsOf (leader []) 255 0 (at 0 0) .server .head 
 unfolding isBefore tickOf stampedOf
 nothing-without-a-tick = refl
 
+pub nothing-from-the-last-entrys-time : writesNothingOf (server 1 true 0 1 (at 9 0) (x ∷ [])) .answer ≡ Entry 2 1 (at 9 1)
+unfolding tickOf appended
+nothing-from-the-last-entrys-time = refl
+
 pub nothing-under-key-0 : entryAt (live (writesNothingOf (leader []) .server .log)) 1 .key ≡ 255
 unfolding entryAt appended stampedOf tickOf
 nothing-under-key-0 = refl
@@ -84,50 +113,6 @@ nothing-under-key-0 = refl
 pub nothing-with-value-1 : entryAt (live (writesNothingOf (leader []) .server .log)) 1 .value ≡ 0
 unfolding entryAt appended stampedOf tickOf
 nothing-with-value-1 = refl
-
-pub reads-only-committed-entries : localReadOf (holder 1 (x ∷ [])) 5 (at 0 0) .answer ≡ Value 41 (at 1 0)
-unfolding highest isBefore entryAt latestValue
-reads-only-committed-entries = refl
-
-pub local-read-answers-too-early : localReadOf freshServer 5 (at 0 1) .answer ≡ Refused NotYet
-unfolding isBefore entryAt
-local-read-answers-too-early = refl
-
-pub majority-reads-the-whole-log : majorityReadOf (holder 1 (x ∷ [])) 5 (at 0 0) .answer ≡ Value 0 (at 0 0)
-unfolding highest isBefore entryAt latestValue
-majority-reads-the-whole-log = refl
-
-pub majority-waits-for-the-applied-time : majorityReadOf (covering (x ∷ z ∷ [])) 5 (at 2 0) .answer ≡ Refused NotYet
-unfolding isBefore entryAt
-majority-waits-for-the-applied-time = refl
-
--- a server of this term, role, commit point and log, asked for key 5 up to position 1 in term 1
-abbrev asked : ℕ → Bool → ℕ → List Entry → Answer
-asked term primary commit es = newestReadOf (server term primary commit 1 (at 2 0) es) 5 1 1 .answer
-
-pub newest-read-at-a-secondary : asked 1 false 1 (x ∷ []) ≡ Refused WrongRole
-unfolding mayAsk
-newest-read-at-a-secondary = refl
-
-pub newest-read-in-another-term : asked 2 true 1 (x ∷ []) ≡ Refused WrongRole
-unfolding mayAsk
-newest-read-in-another-term = refl
-
-pub newest-read-before-the-commit-point : asked 1 true 0 (x ∷ []) ≡ Refused NotYet
-unfolding entryAt hasEntry mayAsk
-newest-read-before-the-commit-point = refl
-
-pub newest-read-up-to-the-commit-point : asked 1 true 2 (x ∷ z ∷ []) ≡ Value 41 (at 1 0)
-unfolding highest entryAt hasEntry latestValue mayAsk
-newest-read-up-to-the-commit-point = refl
-
-pub newest-read-of-the-whole-log : asked 1 true 1 (x ∷ z ∷ []) ≡ Value 41 (at 1 0)
-unfolding highest entryAt hasEntry latestValue mayAsk
-newest-read-of-the-whole-log = refl
-
-pub newest-read-8-before-10 : asked 1 true 0 [] ≡ Refused NoSuchEntry
-unfolding hasEntry mayAsk
-newest-read-8-before-10 = refl
 
 -- this server with one report in its queue, and server 1 for its source
 abbrev waiting : Server → Report → Server
