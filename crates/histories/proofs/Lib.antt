@@ -1,0 +1,10 @@
+-- Laws of the check of the phones' records. Assumes nothing.
+pub mod Lent
+pub mod Searching
+pub mod Breakers
+pub mod Carrying
+pub mod Obeying
+pub mod Judged
+pub mod Exactly
+pub mod Holding
+pub mod Results

@@ -1,0 +1,49 @@
+-- A committed log, lent as five lists, one a field: its entries, and whether a well-formed record could hold them. Assumes nothing.
+use mathlib.Core.List.{List, [], _∷_}
+use mathlib.Core.Bool.{Bool, _&&_}
+use Prim.Native.Nat.{ℕ}
+use lib.Dec.{eqb, leb}
+use lib.ListN.{length}
+use Rattle.clock.specs.Times.{limit}
+use Rattle.log.specs.declared.Entry.{Entry}
+use Rattle.log.specs.Logs.{logLimit}
+use Rattle.log.specs.Order.{inOrder}
+
+-- a committed log has at most as many entries as a log may have
+abbrev pub committedLimit : ℕ
+committedLimit = logLimit
+
+pub record Committed : Type 0 where
+  pub terms : List ℕ
+  pub keys : List ℕ
+  pub values : List ℕ
+  pub ps : List ℕ
+  pub ls : List ℕ
+
+-- the log that five slices lend
+abbrev pub lent : List ℕ → List ℕ → List ℕ → List ℕ → List ℕ → Committed
+lent terms keys values ps ls = record { terms = terms; keys = keys; values = values; ps = ps; ls = ls }
+
+-- one entry for each place that all five lists have
+unfoldable pub joined : List ℕ → List ℕ → List ℕ → List ℕ → List ℕ → List Entry
+joined [] ks vs ps ls = []
+joined (t ∷ ts) [] vs ps ls = []
+joined (t ∷ ts) (k ∷ ks) [] ps ls = []
+joined (t ∷ ts) (k ∷ ks) (v ∷ vs) [] ls = []
+joined (t ∷ ts) (k ∷ ks) (v ∷ vs) (p ∷ ps) [] = []
+joined (t ∷ ts) (k ∷ ks) (v ∷ vs) (p ∷ ps) (l ∷ ls) =
+    record { term = t; key = k; value = v; time = record { p = p; l = l } } ∷ joined ts ks vs ps ls
+
+abbrev pub entriesOf : Committed → List Entry
+entriesOf g = joined (g .terms) (g .keys) (g .values) (g .ps) (g .ls)
+
+-- the five lists are of one length
+unfoldable pub together : Committed → Bool
+together g =
+    eqb (length (g .keys)) (length (g .terms))
+    && (eqb (length (g .values)) (length (g .terms))
+    && (eqb (length (g .ps)) (length (g .terms)) && eqb (length (g .ls)) (length (g .terms))))
+
+-- a well-formed record could hold the log: not too long, and every entry may stand in its place at a server of some term
+unfoldable pub couldHold : Committed → Bool
+couldHold g = together g && (leb (length (g .terms)) committedLimit && inOrder limit (entriesOf g))
