@@ -6,6 +6,8 @@ use Prim.Native.Nat.{ℕ, zero, suc, _-_, _<_, _≤_}
 use native.Mathlib.Nat.{eq-or-lt-of-le, le-of-suc-le-suc}
 use native.Mathlib.Omega.{arith}
 use Rattle.base.specs.Numbers.{highest}
+use Rattle.base.proofs.Bools.{not-both}
+use Rattle.base.proofs.Facts.{lt-or-le}
 
 module _ (p : ℕ → Bool) where
   -- looked for from the end
@@ -54,3 +56,17 @@ module _ (p : ℕ → Bool) where
       go : (b : Bool) → p (suc k) ≡ b → (highest p k < j → j ≤ k → p j ≡ false) → cond b (suc k) (highest p k) < j → p j ≡ false
       go true q ih h = absurd (omega arith)
       go false q ih h = ⊎-elim (λ e. rw e q) (λ m. ih h (le-of-suc-le-suc m)) (eq-or-lt-of-le l)
+
+  -- so what passes is not above it
+  pub highest-from : (n j : ℕ) → j ≤ n → p j ≡ true → j ≤ highest p n
+  highest-from n j l e = ⊎-elim (λ h. not-both (p j) e (highest-above n j h l)) (λ h. h) (lt-or-le (highest p n) j)
+
+  -- and a number that passes, where none above it does, is the highest; 0 where none passes
+  pub highest-is : (n k : ℕ) → k ≤ n → (1 ≤ k → p k ≡ true) → ((j : ℕ) → k < j → j ≤ n → p j ≡ false) → highest p n ≡ k
+  highest-is n k within passes last = ⊎-elim lower (λ l. ⊎-elim higher (λ m. omega arith) (lt-or-le k (highest p n))) (lt-or-le (highest p n) k)
+    where
+      lower : highest p n < k → highest p n ≡ k
+      lower l = not-both (p k) (passes (omega arith)) (highest-above n k l within)
+
+      higher : k < highest p n → highest p n ≡ k
+      higher l = not-both (p (highest p n)) (highest-passes n (omega arith)) (last (highest p n) l (highest-le n))

@@ -35,7 +35,7 @@ pub record OneRun (c : Cluster) (es : List Event) : Type 0 where
   pub steps : StepsFrom c (asOne es)
   pub savable : Savable (carried c es)
 
-stepped : {c : Cluster} → Savable c → (s : Step) → FitsStep s → Savable (stepOf c s .cluster)
+pub stepped : {c : Cluster} → Savable c → (s : Step) → FitsStep s → Savable (stepOf c s .cluster)
 stepped {c} h s f = record { fits = step-fits c s (h .fits) f; formed = step-well-formed c s (h .fits) f (h .formed) }
 
 pub one-run : {c : Cluster} → Savable c → (es : List Event) → EventsFrom c es → OneRun c es
@@ -54,7 +54,7 @@ one-run {c} h (overnight d ∷ es) f =
       savable = subst (λ (x : Cluster). Savable (carried x es)) (sym same) (r .savable);
     }
 
-fresh : (n : ℕ) → fewestServers ≤ n → n ≤ mostServers → Savable (freshCluster n)
+pub fresh : (n : ℕ) → fewestServers ≤ n → n ≤ mostServers → Savable (freshCluster n)
 fresh n two seven = record { fits = fits-fresh n seven; formed = well-formed-fresh n two seven }
 
 pub demand-3-carried : CarriedPromised

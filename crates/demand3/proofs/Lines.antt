@@ -14,16 +14,8 @@ use Rattle.frames.proofs.Steps.{read-step-fits}
 use Rattle.replay.specs.Texts.{respond, answerTo, recordAfter}
 use Rattle.safety.specs.Promise.{runOf, StepsFrom}
 use Rattle.demand3.specs.Promise.{Line, NoneBegins}
+use Rattle.demand3.specs.Lines.{joined, stepsIn}
 use Rattle.demand3.proofs.Starts.{start-of, answer-is, answer-of}
-
--- the steps that lines read as; a line that is no frame gives none
-abbrev joined : ReadStep → List Step → List Step
-joined (R.Step s) ss = s ∷ ss
-joined R.NoFrame ss = ss
-
-abbrev pub stepsIn : List Line → List Step
-stepsIn [] = []
-stepsIn (l ∷ ls) = joined (readStep l) (stepsIn ls)
 
 -- they lead to the same record
 pub same-record : (c : Cluster) (ls : List Line) → recordAfter c ls ≡ runOf c (stepsIn ls)

@@ -11,9 +11,10 @@ use Rattle.safety.specs.Promise.{afterOf}
 use Rattle.safety.specs.Newest.{readingStep, readAfter, NewestRun}
 use Rattle.safety.proofs.Newest.{newest-read}
 use Rattle.demand3.specs.Promise.{later}
+use Rattle.demand3.specs.Lines.{stepsIn}
 use Rattle.demand3.specs.Newest.{NewestStretch, reader, NewestInTexts}
 use Rattle.demand3.proofs.Starts.{answer-is, answer-of}
-use Rattle.demand3.proofs.Lines.{stepsIn, same-record, steps-from}
+use Rattle.demand3.proofs.Lines.{same-record, steps-from}
 use Rattle.demand3.proofs.Stretches.{begun, untilOf, onwardOf, moment-is, later-is, steps-until, steps-onward}
 
 -- its steps are a run with a newest read

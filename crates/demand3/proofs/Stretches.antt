@@ -8,8 +8,9 @@ use Rattle.steps.specs.declared.Step.{Step}
 use Rattle.replay.specs.Texts.{recordAfter}
 use Rattle.safety.specs.Promise.{StepsFrom, momentOf, afterOf}
 use Rattle.demand3.specs.Promise.{Stretch, opening, moment, later}
+use Rattle.demand3.specs.Lines.{stepsIn}
 use Rattle.demand3.proofs.Starts.{Fresh, begins-fresh}
-use Rattle.demand3.proofs.Lines.{stepsIn, same-record, steps-from}
+use Rattle.demand3.proofs.Lines.{same-record, steps-from}
 
 module _ {text : List ℕ} (t : Stretch text) where
   pub begun : Fresh (opening t) (t .count)

@@ -7,14 +7,16 @@ use native.Mathlib.Numerals.{add-one}
 use native.Mathlib.Omega.{arith}
 use native.Mathlib.Nat.{le-of-suc-le-suc}
 use lib.ListN.{length, take, drop, getD, drop-of-length-le, length-take}
-use lib.Seq.{drop-cons, getD-take, take-take}
+use lib.Seq.{drop-cons, getD-take, take-take, take-length, length-take-le}
+use borrow.Author.Tests.{eqb-true, eq-eqb}
 use Rattle.base.proofs.Bools.{not-both}
 use Rattle.base.proofs.Joined.{joined-same}
 use Rattle.log.specs.declared.Entry.{Entry}
 use Rattle.log.specs.declared.Log.{Log}
-use Rattle.log.specs.Entries.{zeroEntry, sameEntry, commonBeginning}
+use Rattle.log.specs.Entries.{zeroEntry, sameEntry, entryAt, commonBeginning, isBeginning}
 use Rattle.log.specs.Logs.{live, joined}
 use Rattle.log.proofs.Equal.{sameEntry-eq, sameEntry-refl}
+use Rattle.log.proofs.Live.{entryAt-take}
 
 -- ---- a loop that compares from the front
 
@@ -121,6 +123,41 @@ common-longest (suc n) (x ∷ xs) (y ∷ ys) hx hy e = go (common-longest n xs y
     go : (take n xs ≡ take n ys → n ≤ commonBeginning xs ys) → (b : Bool) → sameEntry x y ≡ b → suc n ≤ cond b (suc (commonBeginning xs ys)) 0
     go ih true q = omega (arith, ih tail)
     go ih false q = not-both (sameEntry x y) (ap (λ (z : Entry). sameEntry x z) (sym head) ∙ sameEntry-refl x) q
+
+-- ---- a beginning
+
+-- xs is a beginning of ys, as facts
+pub record Beginning (xs ys : List Entry) : Type 0 where
+  pub long : length xs ≤ length ys
+  pub same : take (length xs) ys ≡ xs
+
+pub beginning : (xs ys : List Entry) → isBeginning xs ys ≡ true → Beginning xs ys
+beginning xs ys e =
+    let q = eqb-true (commonBeginning xs ys) (length xs) e in
+    record { long = omega (arith, common-le xs ys .1); same = sym (rw q at (common-agrees xs ys)) ∙ take-length xs }
+
+pub is-beginning : {xs ys : List Entry} → Beginning xs ys → isBeginning xs ys ≡ true
+is-beginning {xs} {ys} b =
+    eq-eqb (commonBeginning xs ys) (length xs)
+    (omega (arith, common-le xs ys .0, common-longest (length xs) xs ys (omega arith) (b .long) (take-length xs ∙ sym (b .same))))
+
+-- the first k entries of a list are a beginning of any list that has them too
+pub first-beginning : (k : ℕ) (xs ys : List Entry) → k ≤ length xs → k ≤ length ys → take k xs ≡ take k ys → isBeginning (take k xs) ys ≡ true
+first-beginning k xs ys hx hy e =
+    let n : length (take k xs) ≡ k = length-take-le k xs hx in is-beginning (record { long = omega arith; same = rw n (sym e) })
+
+pub beginning-trans : {xs ys zs : List Entry} → Beginning xs ys → Beginning ys zs → Beginning xs zs
+beginning-trans {xs} {ys} {zs} a b =
+    record {
+      long = omega (arith, a .long, b .long);
+      same = sym (take-take (length xs) (length ys) zs (a .long)) ∙ ap (take (length xs)) (b .same) ∙ a .same;
+    }
+
+-- entry by entry
+pub beginning-at : {xs ys : List Entry} → Beginning xs ys → (n : ℕ) → n ≤ length xs → entryAt ys n ≡ entryAt xs n
+beginning-at {xs} {ys} b n h = sym (entryAt-take (length xs) n ys h) ∙ ap (λ (zs : List Entry). entryAt zs n) (b .same)
+
+-- ---- a rollback
 
 -- the longest common beginning and then the rest of b is b, whatever both logs are
 pub rolled-is : (a b : Log) → joined a b (commonBeginning (live a) (live b)) ≡ b

@@ -3,22 +3,25 @@ use mathlib.Core.Path.{_≡_, refl, ap, _∙_}
 use mathlib.Core.List.{List}
 use mathlib.Core.Bool.{true, false, _&&_, _||_}
 use mathlib.Core.Logic.{_⊎_, inl, inr, ⊎-elim}
-use Prim.Native.Nat.{ℕ, zero, suc, _+_, _-_, _<_, _≤_}
+use Prim.Native.Nat.{ℕ, zero, suc, _<_, _≤_}
+use native.Mathlib.Nat.{eq-or-lt-of-le, le-of-suc-le-suc}
 use native.Mathlib.Omega.{arith}
 use lib.Dec.{eqb, ltb, leb}
-use lib.ListN.{length, getD, List·getD-eq-default}
+use lib.ListN.{length, getD, take, List·getD-eq-default}
+use lib.Seq.{length-take-le}
 use borrow.Author.Tests.{leb-true, le-leb, eqb-true, eq-eqb, ltb-true, lt-ltb}
 use Rattle.base.proofs.Bools.{and-both, and-left, and-right, or-left, or-right, or-cases}
 use Rattle.base.proofs.Every.{every-at, every-all}
 use Rattle.base.proofs.Facts.{lt-or-le}
 use Rattle.clock.specs.Times.{isBefore}
-use Rattle.clock.proofs.Order.{before-itself, before-not-after, not-after-trans}
+use Rattle.clock.proofs.Order.{before-itself, before-not-after, before-trans}
 use Rattle.log.specs.declared.Entry.{Entry}
 use Rattle.log.specs.declared.Log.{Log}
 use Rattle.log.specs.Entries.{zeroEntry, sameEntry, entryAt, appliedTime}
 use Rattle.log.specs.Logs.{logLimit, live}
 use Rattle.log.specs.Order.{highestKey, noKey, writesSome, entryOk, follows, placeOk, inOrder, restZero, logOk}
 use Rattle.log.proofs.Equal.{sameEntry-eq, sameEntry-refl}
+use Rattle.log.proofs.Live.{entryAt-take}
 use Rattle.log.proofs.Tidy.{Tidy}
 
 -- ---- one entry
@@ -89,14 +92,41 @@ in-order {term} {es} o = every-all _ (length es) (λ i l. and-both _ _ (good-ent
     place zero l = refl
     place (suc i) l = or-right (eqb (suc i) 0) _ (and-both _ _ (le-leb _ _ (o .terms (suc i) (omega arith) l)) (o .times (suc i) (omega arith) l))
 
--- so no entry's time is after the last one's
-pub not-after-last : {term : ℕ} {es : List Entry} → Orderly term es → (n : ℕ) → 1 ≤ n → n ≤ length es → isBefore (appliedTime es) (entryAt es n .time) ≡ false
-not-after-last {term} {es} o n p l = go (length es - n) n p (omega arith)
+-- so times rise strictly from any entry to any later one
+pub later-time : {term : ℕ} {es : List Entry} → Orderly term es → (m n : ℕ) → 1 ≤ m → m < n → n ≤ length es
+    → isBefore (entryAt es m .time) (entryAt es n .time) ≡ true
+later-time o m zero p l h = absurd (omega arith)
+later-time {es = es} o m (suc n) p l h =
+    go (eq-or-lt-of-le (le-of-suc-le-suc l)) (λ k. later-time o m n p k (omega arith))
   where
-    -- k entries before the last
-    go : (k n : ℕ) → 1 ≤ n → k + n ≡ length es → isBefore (appliedTime es) (entryAt es n .time) ≡ false
-    go zero n p e = let q : n ≡ length es = omega arith in rw q (before-itself (appliedTime es))
-    go (suc k) n p e = not-after-trans _ _ _ (before-not-after _ _ (o .times n p (omega arith))) (go k (suc n) (omega arith) (omega arith))
+    go : (m ≡ n) ⊎ (m < n) → (m < n → isBefore (entryAt es m .time) (entryAt es n .time) ≡ true)
+        → isBefore (entryAt es m .time) (entryAt es (suc n) .time) ≡ true
+    go (inl e) ih = rw e (o .times n (omega arith) h)
+    go (inr k) ih = before-trans _ _ _ (ih k) (o .times n (omega arith) h)
+
+-- and no entry's time is after that of any later one, nor after its own
+pub not-after : {term : ℕ} {es : List Entry} → Orderly term es → (m n : ℕ) → 1 ≤ m → m ≤ n → n ≤ length es
+    → isBefore (entryAt es n .time) (entryAt es m .time) ≡ false
+not-after {es = es} o m n p l h =
+    ⊎-elim (λ e. rw e (before-itself (entryAt es n .time))) (λ k. before-not-after _ _ (later-time o m n p k h)) (eq-or-lt-of-le l)
+
+pub not-after-last : {term : ℕ} {es : List Entry} → Orderly term es → (n : ℕ) → 1 ≤ n → n ≤ length es → isBefore (appliedTime es) (entryAt es n .time) ≡ false
+not-after-last {es = es} o n p l = not-after o n (length es) p l (omega arith)
+
+-- the first entries of a log in order are in order
+pub orderly-first : {term : ℕ} {es : List Entry} → Orderly term es → (k : ℕ) → k ≤ length es → Orderly term (take k es)
+orderly-first {term} {es} o k h =
+    record {
+      each = λ n p l. rw (at n (omega (arith, long))) (o .each n p (omega (arith, long)));
+      terms = λ n p l. rw (at n (omega (arith, long)), at (suc n) (omega (arith, long))) (o .terms n p (omega (arith, long)));
+      times = λ n p l. rw (at n (omega (arith, long)), at (suc n) (omega (arith, long))) (o .times n p (omega (arith, long)));
+    }
+  where
+    long : length (take k es) ≡ k
+    long = length-take-le k es h
+
+    at : (n : ℕ) → n ≤ k → entryAt (take k es) n ≡ entryAt es n
+    at n l = entryAt-take k n es l
 
 -- ---- the slots
 

@@ -48,6 +48,11 @@ abbrev pub recordAfter : Cluster → List (List ℕ) → Cluster
 recordAfter c [] = c
 recordAfter c (l ∷ ls) = recordAfter (answerTo c l .cluster) ls
 
+-- the records in turn: the one that the lines are given to, and the one after each of them
+abbrev pub recordsOn : Cluster → List (List ℕ) → List Cluster
+recordsOn c [] = c ∷ []
+recordsOn c (l ∷ ls) = c ∷ recordsOn (answerTo c l .cluster) ls
+
 -- the answers to a text, and the record that it leaves
 abbrev pub answers : Cluster → List ℕ → List ℕ
 answers c text = answersTo c (lines text)

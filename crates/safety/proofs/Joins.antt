@@ -1,6 +1,6 @@
 -- What joins records to the theory: their steps as `Goes`, and what holds in every view that is reached.
 -- Assumes nothing.
-use mathlib.Core.Path.{_≡_, refl, _∙_}
+use mathlib.Core.Path.{_≡_, refl, sym, _∙_}
 use mathlib.Core.Logic.{by-cases}
 use Prim.Native.Nat.{ℕ, _≤_, _<_}
 use native.Mathlib.Decide.{decLe}
@@ -9,10 +9,10 @@ use Rattle.safety.specs.Quorum.{Quorums}
 use Rattle.safety.specs.Cluster.{LogSeen, Agree, Seen, Holds, Others}
 use Rattle.safety.specs.Told.{Told, ClusterSeen}
 use Rattle.safety.specs.Steps.{Copies, stays, Quiet, Goes, quiet, Fresh, Walk, stop, go}
-use Rattle.safety.proofs.Leads.{term-of, times-rise}
-use Rattle.safety.proofs.Inv.{Inv, replaced, not-lost, matching, may-copy}
+use Rattle.safety.proofs.Leads.{term-of, times-rise, grown-rooted}
+use Rattle.safety.proofs.Inv.{Inv, rooted-at, replaced, not-lost, matching, may-copy}
 use Rattle.safety.proofs.Moves.{rests-refl}
-use Rattle.safety.proofs.Reached.{Known, reached}
+use Rattle.safety.proofs.Reached.{Known, walk-known, reached}
 
 -- ---- steps
 
@@ -64,3 +64,14 @@ module _ {𝓠 : Quorums} {x y : ClusterSeen} (f : Fresh x) (w : Walk 𝓠 x y) 
   -- a commit point is within the log
   pub commit-within : (a : ℕ) → v a .commit ≤ v a .len
   commit-within a = inv .settled a .within
+
+-- ---- in a later view
+
+-- entries of one term at n have the same past, also where b is looked at later: a term's lead only grows at its end
+pub matching-later : {𝓠 : Quorums} {u x y : ClusterSeen} → Fresh u → Walk 𝓠 u x → Walk 𝓠 x y → (a b n : ℕ) → n ≤ x .servers a .len → n ≤ y .servers b .len
+    → x .servers a .log n .term ≡ y .servers b .log n .term → Agree n (x .servers a .log) (y .servers b .log)
+matching-later f w w′ a b n ha hb e k kn =
+    let K = reached f w in
+    let L = walk-known K w′ in
+    let then = grown-rooted (L .1 .grown) (rooted-at (K .known .inv) a n ha) in
+    then .along k kn ∙ rw e (sym (rooted-at (L .0 .known .inv) b n hb .along k kn))

@@ -3,15 +3,14 @@
 -- Assumes nothing.
 use mathlib.Core.Path.{_≡_, refl, ap, sym, _∙_, subst}
 use mathlib.Core.Bool.{true}
-use mathlib.Core.List.{List}
 use mathlib.Core.Logic.{⊎-elim, by-cases}
 use Prim.Native.Nat.{ℕ, zero, suc, _<_, _≤_}
 use native.Mathlib.Decide.{ℕ-discrete}
 use native.Mathlib.Omega.{arith}
 use lib.Dec.{ltb}
-use lib.ListN.{length, getD, take, length-take, List·getD-eq-default}
-use lib.Seq.{length-take-le, take-take, getD-take}
-use borrow.Author.Tests.{ltb-true, eq-eqb}
+use lib.ListN.{getD, take, length-take, List·getD-eq-default}
+use lib.Seq.{getD-take}
+use borrow.Author.Tests.{ltb-true}
 use Rattle.base.specs.Lists.{each}
 use Rattle.base.proofs.Each.{length-eachFrom}
 use Rattle.base.proofs.Facts.{lt-or-le}
@@ -21,7 +20,7 @@ use Rattle.log.specs.declared.Log.{Log}
 use Rattle.log.specs.Entries.{zeroEntry, entryAt, commonBeginning, isBeginning}
 use Rattle.log.specs.Logs.{logLimit, live, lengthOf}
 use Rattle.log.specs.Ranges.{FitsLog}
-use Rattle.log.proofs.Common.{common-le, common-longest}
+use Rattle.log.proofs.Common.{common-longest, first-beginning}
 use Rattle.log.proofs.Positions.{same-first}
 use Rattle.cluster.specs.declared.Server.{Server}
 use Rattle.cluster.specs.declared.Cluster.{Cluster}
@@ -149,13 +148,6 @@ same-entry d e f g q =
     λ i. record { term = q i .term; key = q i .key; value = q i .value; time = times i }
 
 -- ---- the first entries of s, which t holds
-
--- the first k entries of a list are a beginning of any list that has them too
-pub first-beginning : (k : ℕ) (xs ys : List Entry) → k ≤ length xs → k ≤ length ys → take k xs ≡ take k ys → isBeginning (take k xs) ys ≡ true
-first-beginning k xs ys hx hy e =
-    let n : length (take k xs) ≡ k = length-take-le k xs hx in
-    let le = common-longest k (take k xs) ys (omega arith) hy (take-take k k xs (omega arith) ∙ e) in
-    eq-eqb (commonBeginning (take k xs) ys) (length (take k xs)) (omega (arith, common-le (take k xs) ys .0))
 
 module _ (s t : Server) (f : FitsLog (s .log)) (g : FitsLog (t .log)) {k : ℕ} (long : k ≤ lengthOf (s .log)) (h : Holds k (seenServer s .log) (seenServer t)) where
   -- position by position
