@@ -51,7 +51,7 @@ fn functions(crates: &Path) -> io::Result<Vec<Function>> {
                 let (parameters, rest) = parameters(&text[start..]);
                 let mut lacks = lacks_in_contract(rest);
                 let form = if parameters.contains("&mut") { OF_BUFFER } else { OF_RESULT };
-                if !has_law(&results, &path, form) {
+                if !has_law(&results, &path, form) && !has_walked_law(&results, &path) {
                     lacks.push(law_wanted(&room, &path, form));
                 }
                 functions.push(Function { path, place, lacks });
@@ -192,6 +192,22 @@ fn has_law(results: &str, path: &str, form: &str) -> bool {
     let statement = law.split(&format!("\n{name} ")).next().unwrap_or_default();
     let speaks = statement.contains(&format!("{form}{name}-reads.Learnt "));
     speaks && results.lines().any(|line| line == import)
+}
+
+/// Whether there are both laws of a function that is walked by hand, whose contract has no reading: its
+/// clauses come to one fact about the result, and that fact allows one result.
+fn has_walked_law(results: &str, path: &str) -> bool {
+    let (room, below) = path.split_once("::").unwrap_or(("", path));
+    let (name, _) = law_of(path);
+    let import = format!("use Rattle.{room}.proofs.{} as the-{name}", below.replace("::", "."));
+    let has = |start: &str, words: &str| {
+        let law = results.split("pub ").find(|law| law.starts_with(start)).unwrap_or_default();
+        law.split("\n\n").next().unwrap_or_default().contains(words)
+    };
+    results.lines().any(|line| line == import)
+        && has(&format!("{name}-says : "), &format!("the-{name}.clauses "))
+        && has(&format!("{name}-says : "), "≡ fact 𝓤 (Allowed r)")
+        && has(&format!("{name} : "), "OneResult Allowed")
 }
 
 fn law_wanted(room: &str, path: &str, form: &str) -> String {

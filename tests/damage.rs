@@ -2,12 +2,14 @@
 //! steps of `evening.steps` reach a record that has frames of every sort.
 
 mod prng;
+mod texts;
 
 use prng::Prng;
 use std::io::{self, Read};
 use std::ops::Range;
 use std::process::ExitCode;
 use std::{env, fs};
+use texts::write_texts;
 
 const HELP: &str = "\
 Damages a saved record, which it reads from standard input.
@@ -65,13 +67,8 @@ fn write_all(mut prng: Prng, most: usize, folder: &str) -> io::Result<()> {
     io::stdin().lock().read_to_end(&mut text)?;
     fs::create_dir_all(folder)?;
     for (sort, texts) in damaged(&text, &mut prng) {
-        let mut numbered: Vec<_> = texts.iter().enumerate().collect();
-        while numbered.len() > most {
-            numbered.remove(1 + prng.below(numbered.len() - 2));
-        }
-        for (number, text) in numbered {
-            fs::write(format!("{folder}/{sort}-{number:04}"), text)?;
-        }
+        let numbered = texts.into_iter().enumerate().collect();
+        write_texts(&mut prng, most, &format!("{folder}/{sort}"), numbered)?;
     }
     Ok(())
 }

@@ -47,14 +47,19 @@ pub const MUST_BE_ZERO: [u16; KINDS] = [
 
 /// Reads a line without its line feed; of a longer one its first 27 bytes are enough.
 pub fn read_line(line: &[u8]) -> Result<Step, Condition> {
-    if line.len() != LINE {
+    read_frame(&read_bytes(line)?)
+}
+
+/// The bytes that a line stands for, where it has the digits of just so many.
+pub fn read_bytes<const N: usize>(line: &[u8]) -> Result<[u8; N], Condition> {
+    if line.len() != 2 * N {
         return Err(WrongLength);
     }
-    let mut frame = [0; FRAME];
-    for (byte, pair) in frame.iter_mut().zip(line.chunks_exact(2)) {
+    let mut bytes = [0; N];
+    for (byte, pair) in bytes.iter_mut().zip(line.chunks_exact(2)) {
         *byte = digit(pair[0])? << 4 | digit(pair[1])?;
     }
-    read_frame(&frame)
+    Ok(bytes)
 }
 
 pub fn digit(character: u8) -> Result<u8, Condition> {

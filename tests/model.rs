@@ -17,7 +17,8 @@ pub const SERVERS: usize = 7;
 pub const ENTRIES: usize = 32;
 /// How many kinds of step there are.
 pub const KINDS: usize = 17;
-const KEY_MAX: u8 = 15;
+/// The highest key that can be written and read.
+pub const KEY_MAX: u8 = 15;
 /// The key of the entries that write nothing, and of no others; it is neither written nor read.
 const KEY_OF_NOTHING: u8 = 255;
 /// The most that a client's p may be above the wall clock.
@@ -194,10 +195,14 @@ impl Log {
 
     fn well_formed(&self) -> bool {
         self.length <= ENTRIES
-            && self.held().iter().all(Entry::in_range)
-            && self.held().windows(2).all(|two| two[0].may_precede(&two[1]))
+            && are_in_order(self.held())
             && self.entries[self.length..].iter().all(|slot| *slot == Entry::ZERO)
     }
+}
+
+/// Whether entries could stand so one after the other in a log that has room for them.
+pub fn are_in_order(entries: &[Entry]) -> bool {
+    entries.iter().all(Entry::in_range) && entries.windows(2).all(|two| two[0].may_precede(&two[1]))
 }
 
 impl Server {

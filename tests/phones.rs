@@ -38,13 +38,13 @@ impl Run {
     }
 
     /// A time so far ahead of a's wall clock, or the last p.
-    fn ahead(&mut self, a: u8, by: u16) -> Time {
+    pub(super) fn ahead(&mut self, a: u8, by: u16) -> Time {
         let p = self.at(a).wall_clock.saturating_add(by);
         Time { p, l: self.prng.pick(&[0, 0, 1, LAST]) }
     }
 
     /// A good write by a for a client with this time.
-    fn write_for(&mut self, a: u8, client: Time) -> Step {
+    pub(super) fn write_for(&mut self, a: u8, client: Time) -> Step {
         let (key, value) = (self.prng.below(4) as u8, 1 + self.prng.below(65_535) as u16);
         Step::Writes { a, key, value, client }
     }

@@ -1,15 +1,19 @@
 //! The plain program: step lines in, answer lines out, one for each. `plain --help` tells the use;
 //! sessions that are answered in its tests are in `plain_tests.rs`.
 
+mod histories;
 mod lines;
 mod model;
+mod records;
 mod saved;
 mod sights;
 mod tally;
 
+use histories::{Verdict, check_text};
 use lines::{LINE, put_numbers, read_line, write_bytes};
 use model::kinds::step_where;
 use model::{Answer, Cluster, Numbers, Step, step};
+use records::Covered;
 use saved::{Refusal, load, save};
 use std::fs;
 use std::io::{self, BufRead, BufReader, BufWriter, ErrorKind, Write};
@@ -27,6 +31,11 @@ plain < steps            writes one answer line for each step line
 plain --tally < steps    writes instead how often each kind was done and how often each condition
                          of its refusals was the one that refused; exits 1 and names them where
                          something that lines can reach never occurred
+plain --check PHONES < steps
+                         writes instead what comes of the phones' records in that file, in a line:
+                         accepted N, refusal 1 at line L, refusal 2, refusal 3 or record K at line L;
+                         exits 0 only where they are accepted, and says on standard error where
+                         there was no start or more than one
 plain --help             writes this
 
 A record that can't be loaded or saved is refused: the refusal's number is written to standard error
@@ -44,6 +53,7 @@ fn main() -> ExitCode {
     let arguments: Vec<String> = std::env::args().skip(1).collect();
     let done = match arguments.iter().map(String::as_str).collect::<Vec<_>>()[..] {
         ["--tally"] => write_tally(),
+        ["--check", phones] => write_check(phones),
         ["--help"] => io::stdout().write_all(HELP.as_bytes()).map(|()| ExitCode::SUCCESS),
         ref others => match Options::read(others) {
             Some(options) => write_run(&options),
@@ -146,6 +156,31 @@ fn write_tally() -> io::Result<ExitCode> {
     })?;
     let all_reached = tally.write(&mut io::stdout().lock())?;
     Ok(if all_reached { ExitCode::SUCCESS } else { ExitCode::FAILURE })
+}
+
+/// What phones saw, against what the steps covered.
+fn write_check(phones: &str) -> io::Result<ExitCode> {
+    let text = fs::read(phones)?;
+    let covered = covered_by(standard_input())?;
+    if covered.starts != 1 {
+        eprintln!("plain: {} starts; the log is that of the last, or empty", covered.starts);
+    }
+    let verdict = check_text(&covered.entries, &text);
+    println!("{verdict}");
+    let accepted = matches!(verdict, Verdict::Accepted(_));
+    Ok(if accepted { ExitCode::SUCCESS } else { ExitCode::FAILURE })
+}
+
+fn covered_by(input: impl BufRead) -> io::Result<Covered> {
+    let (mut cluster, mut covered) = (Cluster::ZERO, Covered::default());
+    each_line(input, |line| {
+        if let Ok(read) = read_line(line) {
+            let answer = step(&mut cluster, &read);
+            covered.follow(&read, answer, &cluster);
+        }
+        Ok(())
+    })?;
+    Ok(covered)
 }
 
 fn standard_input() -> impl BufRead {

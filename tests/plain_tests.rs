@@ -67,6 +67,7 @@ fn the_samples() {
         (include_str!("../samples/newest"), include_str!("../samples/newest.answers")),
         (include_str!("../samples/reports"), include_str!("../samples/reports.answers")),
         (include_str!("../samples/phones"), include_str!("../samples/phones.answers")),
+        (include_str!("../samples/may"), include_str!("../samples/may.answers")),
     ];
     for (steps, printed) in samples {
         assert_eq!(answers(steps.as_bytes()), printed);
@@ -242,4 +243,59 @@ fn a_record_is_loaded_first_and_saved_last_or_refused() {
     assert_eq!(ran(true, &record(0), &begins), refused(2, "", &record(0)));
     assert_eq!(ran(false, "old", TICK), refused(2, "020000000000000000\n", "old"));
     fs::remove_file(file).unwrap();
+}
+
+/// The values of the committed log of a run, and how many starts there were.
+fn committed(steps: &[&str]) -> (Vec<u16>, usize) {
+    let Covered { entries, starts } = covered_by(steps.join("\n").as_bytes()).unwrap();
+    (entries.iter().map(|entry| entry.value).collect(), starts)
+}
+
+/// 41 and then 42 are covered at server 0; 40, which it appends after that, nowhere.
+const COVERING: [&str; 10] = [
+    "00030000000000000000000000",
+    "01000003000000000000000000",
+    "06000000050029000000000000",
+    "04010000000000000000000000",
+    "10000000000000000000000000",
+    "07000000000000000000000000",
+    "0600000005002a000000000000",
+    "04010000000000000000000000",
+    "10000000000000000000000000",
+    "06000000050028000000000000",
+];
+const ADVANCES: &str = "07000000000000000000000000";
+
+#[test]
+fn the_longest_beginning_ever_covered_is_the_log() {
+    assert_eq!(committed(&[]), (vec![], 0));
+    assert_eq!(committed(&["0d", ADVANCES, "00080000000000000000000000"]), (vec![], 0));
+    assert_eq!(committed(&COVERING[..5]), (vec![], 1));
+    assert_eq!(committed(&COVERING), (vec![41], 1));
+    let whole = [&COVERING[..], &[ADVANCES]].concat();
+    assert_eq!(committed(&whole), (vec![41, 42], 1));
+    let (restart, refused) = ("09000000000000000000000000", "00080000000000000000000000");
+    assert_eq!(committed(&[&whole[..], &[restart, refused, "x", ""]].concat()), (vec![41, 42], 1));
+    let may: Vec<&str> = include_str!("../samples/may").lines().collect();
+    assert_eq!(committed(&may[..14]), (vec![41], 1));
+    assert_eq!(committed(&may[..15]), (vec![41, 41], 1));
+}
+
+#[test]
+fn the_last_start_that_is_done_begins_another_log() {
+    let start = "00020000000000000000000000";
+    let whole = [&COVERING[..], &[ADVANCES]].concat();
+    assert_eq!(committed(&[&whole[..], &[start]].concat()), (vec![], 2));
+    assert_eq!(committed(&[&whole[..], &COVERING[..6]].concat()), (vec![41], 2));
+}
+
+/// The report of 40 is named, and the reads of 41 are accepted without it.
+#[test]
+fn the_may_sample() {
+    let covered = covered_by(include_bytes!("../samples/may").as_slice()).unwrap();
+    let phones = include_str!("../samples/may.phones");
+    assert_eq!(check_text(&covered.entries, phones.as_bytes()), Verdict::Breaks(2));
+    let lines = phones.split_inclusive('\n').enumerate();
+    let others: String = lines.filter(|(number, _)| *number != 2).map(|(_, line)| line).collect();
+    assert_eq!(check_text(&covered.entries, others.as_bytes()), Verdict::Accepted(5));
 }

@@ -1,20 +1,32 @@
 //! A seeded generator of test sessions. It runs the model along with the lines it writes, so that
-//! most of its steps are allowed. `sessions --help` tells the use; tests are in `sessions_tests.rs`.
+//! most of its steps are allowed. `sessions --help` tells the use; tests are in `sessions_tests.rs`
+//! and, of what phones record, in `diaries_tests.rs`.
 
+mod climbs;
+mod diaries;
 mod draws;
 mod frames;
+#[cfg(test)]
+mod histories;
+mod honest;
 mod junk;
+mod lies;
 mod lines;
 mod model;
 mod phones;
 mod prng;
+mod records;
 mod relays;
 #[cfg(test)]
 mod saved;
+mod texts;
 
+use climbs::{TERMS, WALL_CLOCKS};
+use diaries::write_diaries;
 use frames::{frame_of, line_of};
+use lies::SORTS;
 use lines::read_line;
-use model::{CONDITIONS, Cluster, Condition, ENTRIES, KINDS, Server, Step, step};
+use model::{Answer, CONDITIONS, Cluster, Condition, ENTRIES, KINDS, Step, step};
 use prng::Prng;
 use std::io::{self, Write};
 use std::process::ExitCode;
@@ -24,36 +36,50 @@ Writes seeded test sessions for the replica set.
 
 sessions SEED LINES    writes about LINES step lines; from 200,000 lines on, a session that climbs
                        to the last term and one that climbs to the last wall clock are among them
+sessions SEED LINES MOST FOLDER
+                       writes a session of about LINES step lines in which phones keep diaries, to
+                       FOLDER/steps, and what they recorded to FOLDER/phones; and into FOLDER/lies
+                       false records, each list to a file of its own named by its sort and by the
+                       number of the record that is false, from 0; of each sort at most MOST (2 or
+                       more), the first and the last among them
 sessions --help        writes this
 ";
 
 /// From so many lines on a run has room for both long climbs.
 const LONG_RUN: usize = 200_000;
-/// How near its limit a climb turns into an ordinary session that still climbs.
-const NEAR: u16 = 60;
-/// The ordinary steps that follow a climb.
-const AFTER_CLIMB: usize = 300;
 /// The limit of a short climb, so that terms and wall clocks of more than one byte are common.
 const PAST_A_BYTE: u16 = 280;
 /// The lines that a short climb or a session of overwriting has room in.
 const SPECIAL: usize = 1_500;
+
 fn main() -> ExitCode {
     let arguments: Vec<String> = std::env::args().skip(1).collect();
     if arguments == ["--help"] {
-        print!("{HELP}");
+        print!("{HELP}\n{SORTS}");
         return ExitCode::SUCCESS;
     }
-    let numbers: Vec<u64> = arguments.iter().flat_map(|argument| argument.parse()).collect();
-    let (2, &[seed, lines]) = (arguments.len(), &numbers[..]) else {
-        eprint!("{HELP}");
-        return ExitCode::from(2);
-    };
-    match write_run(seed, lines as usize) {
-        Ok(()) => ExitCode::SUCCESS,
-        Err(error) => {
+    match write_asked(&arguments) {
+        None => {
+            eprint!("{HELP}\n{SORTS}");
+            ExitCode::from(2)
+        }
+        Some(Ok(())) => ExitCode::SUCCESS,
+        Some(Err(error)) => {
             eprintln!("sessions: {error}");
             ExitCode::FAILURE
         }
+    }
+}
+
+/// None where it can't be told what is asked for.
+fn write_asked(arguments: &[String]) -> Option<io::Result<()>> {
+    match arguments {
+        [seed, lines] => Some(write_run(seed.parse().ok()?, lines.parse().ok()?)),
+        [seed, lines, most, folder] => {
+            let most = most.parse().ok().filter(|&most| most > 1)?;
+            Some(write_diaries(seed.parse().ok()?, lines.parse().ok()?, most, folder))
+        }
+        _ => None,
     }
 }
 
@@ -70,16 +96,6 @@ fn write_run(seed: u64, lines: usize) -> io::Result<()> {
     run.last_line();
     run.hand_over(&mut output)
 }
-
-/// Something that rises step by step up to a limit.
-struct Climb {
-    height: fn(&Server) -> u16,
-    raise: fn(&mut Run),
-}
-
-const TERMS: Climb = Climb { height: |server| server.term, raise: Run::raise_term };
-const WALL_CLOCKS: Climb =
-    Climb { height: |server| server.wall_clock, raise: Run::raise_wall_clock };
 
 /// A run under way: the model of what its lines have done, and the lines not yet handed over.
 struct Run {
@@ -114,10 +130,15 @@ impl Run {
         self.written += 1;
     }
 
+    /// Writes a step and gives its answer.
+    fn ask(&mut self, asked: Step) -> Answer {
+        self.write_line(&line_of(&asked));
+        step(&mut self.cluster, &asked)
+    }
+
     /// Writes a step whatever comes of it.
     fn say(&mut self, said: Step) {
-        let _ = step(&mut self.cluster, &said);
-        self.write_line(&line_of(&said));
+        let _ = self.ask(said);
     }
 
     /// Writes a step if it is done or its refusal is worth a line; true where it was written.
@@ -192,14 +213,19 @@ impl Run {
             self.relay();
         }
         while self.written < end {
-            match self.prng.below(1_000) {
-                0 => self.fill(),
-                1..=15 => self.split(),
-                16..=55 => self.replicate(),
-                56..=65 => self.relay(),
-                66..=77 => self.phones(),
-                _ => self.ordinary(),
-            }
+            self.go_on();
+        }
+    }
+
+    /// A round now and then; else one line.
+    fn go_on(&mut self) {
+        match self.prng.below(1_000) {
+            0 => self.fill(),
+            1..=15 => self.split(),
+            16..=55 => self.replicate(),
+            56..=65 => self.relay(),
+            66..=77 => self.phones(),
+            _ => self.ordinary(),
         }
     }
 
@@ -351,30 +377,6 @@ impl Run {
         self.offer(Step::Hears { a: old, b: new });
         self.offer(Step::RollsBack { a: old, b: new });
         self.follow(new);
-    }
-
-    fn raise_term(&mut self) {
-        self.elect_of(self.everyone());
-    }
-
-    fn raise_wall_clock(&mut self) {
-        let a = self.with_most(self.everyone(), |server| server.wall_clock);
-        self.offer(Step::WallClock { a });
-        self.near_the_end(a);
-    }
-
-    /// A session up to a limit; few other steps are on the way, so that logs aren't full there.
-    fn climb(&mut self, climb: &Climb, limit: u16) {
-        self.begin();
-        let top = |run: &Run| run.cluster.counted().iter().map(climb.height).max().unwrap_or(limit);
-        while top(self) < limit {
-            let one_in = if top(self) < limit - NEAR { 512 } else { 3 };
-            if self.prng.one_in(one_in) { self.ordinary() } else { (climb.raise)(self) }
-        }
-        (climb.raise)(self);
-        for _ in 0..AFTER_CLIMB {
-            self.ordinary();
-        }
     }
 
     /// In half of all runs one more line, good or bad, without a line feed.

@@ -2,8 +2,8 @@
 //! and loaded.
 
 use super::*;
-use model::AHEAD_MAX;
 use model::reports::REPORTS;
+use model::{AHEAD_MAX, Server};
 use saved::{load, save};
 
 #[test]

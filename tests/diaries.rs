@@ -1,0 +1,162 @@
+//! Sessions in which phones keep diaries: they write, ask whether it is acknowledged, read with the
+//! latest time that they have seen, and go from server to server, while all else goes on.
+
+use super::Run;
+use crate::honest::{honest, text_of};
+use crate::lies::lies;
+use crate::model::{AHEAD_MAX, Numbers, Step, Time};
+use crate::texts::write_texts;
+use std::{fs, io};
+
+/// How many phones there are.
+const PHONES: usize = 4;
+
+/// Where a phone is, the latest time that it has seen, and its writes that it awaits an
+/// acknowledgement of, as they were answered.
+struct Phone {
+    at: u8,
+    seen: Time,
+    awaits: Vec<Numbers>,
+}
+
+impl Phone {
+    const NEW: Phone = Phone { at: 0, seen: Time::ZERO, awaits: Vec::new() };
+}
+
+pub fn write_diaries(seed: u64, lines: usize, most: usize, folder: &str) -> io::Result<()> {
+    let mut run = Run::new(seed);
+    run.diaries(lines);
+    let honest = honest(&mut run.prng, &run.text);
+    fs::create_dir_all(format!("{folder}/lies"))?;
+    fs::write(format!("{folder}/steps"), &run.text)?;
+    fs::write(format!("{folder}/phones"), text_of(&honest.records))?;
+    for (sort, texts) in lies(&mut run.prng, &honest) {
+        write_texts(&mut run.prng, most, &format!("{folder}/lies/{sort}"), texts)?;
+    }
+    Ok(())
+}
+
+impl Run {
+    /// About so many lines; in some runs others come before the start, or a whole session.
+    pub(super) fn diaries(&mut self, lines: usize) {
+        match self.prng.below(6) {
+            0 => self.before_first_start(),
+            1 => self.session(lines / 2),
+            _ => {}
+        }
+        self.begin();
+        let mut phones = [0; PHONES].map(|_| Phone::NEW);
+        while self.written < lines {
+            let phone = &mut phones[self.prng.below(PHONES)];
+            match self.prng.below(16) {
+                0..=6 => self.visit(phone),
+                7 => self.see_through(phone),
+                8 => self.lose(phone),
+                _ => self.go_on(),
+            }
+        }
+        self.last_line();
+    }
+
+    /// A phone does one thing, where it is or elsewhere; now and then it is another phone.
+    fn visit(&mut self, phone: &mut Phone) {
+        if self.prng.one_in(12) {
+            *phone = Phone::NEW;
+        }
+        if self.prng.one_in(3) {
+            phone.at = self.any_server();
+        }
+        match self.prng.below(8) {
+            0 => {
+                let a = self.primary();
+                self.phone_writes(phone, a);
+            }
+            1 | 2 => self.phone_asks(phone, phone.at),
+            _ => self.phone_reads(phone, phone.at),
+        }
+    }
+
+    fn any_server(&mut self) -> u8 {
+        let count = self.count();
+        self.prng.below(count) as u8
+    }
+
+    /// Mostly with the time that it has seen, else with none or one that its clock makes up.
+    fn phone_writes(&mut self, phone: &mut Phone, a: u8) {
+        let by = self.prng.pick(&[1, AHEAD_MAX, AHEAD_MAX + 1]);
+        let client = match self.prng.below(12) {
+            0 => self.ahead(a, by),
+            1..=3 => Time::ZERO,
+            _ => phone.seen,
+        };
+        let write = self.write_for(a, client);
+        phone.awaits.extend(self.ask(write));
+    }
+
+    /// It may ask again, most often about what isn't acknowledged or was rolled back.
+    fn phone_asks(&mut self, phone: &mut Phone, a: u8) {
+        for written in std::mem::take(&mut phone.awaits) {
+            let Numbers { number: position, term, time } = written;
+            let answer = self.ask(Step::Acknowledged { a, count: 0, position, term });
+            if answer.is_ok() {
+                phone.seen = phone.seen.max(time);
+            }
+            if !self.prng.one_in(if answer.is_ok() { 2 } else { 6 }) {
+                phone.awaits.push(written);
+            }
+        }
+    }
+
+    fn phone_reads(&mut self, phone: &mut Phone, a: u8) {
+        let key = self.prng.below(5) as u8;
+        if let Ok(Numbers { time, .. }) = self.ask(Step::MajorityRead { a, key, time: phone.seen })
+        {
+            phone.seen = time;
+        }
+    }
+
+    /// A phone's write is taken over by others, covered and acknowledged; others hear of it, and the
+    /// phone reads there.
+    fn see_through(&mut self, phone: &mut Phone) {
+        if !self.has_primary() {
+            self.elect_of(self.everyone());
+        }
+        let a = self.primary();
+        self.phone_writes(phone, a);
+        self.cover(a);
+        self.phone_asks(phone, a);
+        self.phone_reads(phone, a);
+        phone.at = self.any_server();
+        self.offer(Step::Hears { a: phone.at, b: a });
+        self.phone_reads(phone, phone.at);
+    }
+
+    /// Half of the others come after a, which then covers what it can.
+    fn cover(&mut self, a: u8) {
+        self.follow(a);
+        self.take_in(a);
+        self.offer(Step::Advances { a });
+    }
+
+    /// A phone writes at a primary that has just lost an election, and is told that it isn't
+    /// acknowledged; what the next one writes takes the place of that.
+    fn lose(&mut self, phone: &mut Phone) {
+        let everyone = self.everyone();
+        let old = self.elect_of(everyone);
+        self.phone_writes(phone, old);
+        self.cover(old);
+        let new = self.elect_of(everyone & !(1 << old));
+        self.phone_writes(phone, old);
+        self.phone_asks(phone, old);
+        self.write_some(new);
+        self.cover(new);
+        self.offer(Step::Hears { a: old, b: new });
+        self.offer(Step::RollsBack { a: old, b: new });
+        self.phone_asks(phone, old);
+        self.phone_reads(phone, old);
+    }
+}
+
+#[cfg(test)]
+#[path = "diaries_tests.rs"]
+mod tests;
