@@ -14,3 +14,4 @@ pub mod Rules
 pub mod Hex
 pub mod Frames
 pub mod Replay
+pub mod Histories

@@ -4,7 +4,7 @@
 use contract.Lifetimes.{Lfts}
 use denote.Ref.{RefT, now}
 use mathlib.Core.Path.{_≡_}
-use mathlib.Core.Logic.{_≢_}
+use mathlib.Core.Logic.{_≢_, _↔_}
 use mathlib.Core.Bool.{Bool, true, false, cond, _||_}
 use mathlib.Core.List.{List, [], _∷_, _++_}
 use Prim.Native.Nat.{ℕ, _≤_, _<_, _*_, _/_, _%_, _^_}
@@ -114,6 +114,22 @@ use Rattle.safety.specs.Promise.{Promised}
 use Rattle.safety.proofs.Promise as safety
 use Rattle.safety.specs.Clocks.{ClocksPromised}
 use Rattle.safety.proofs.Clocks as clocks
+use Rattle.histories.specs.declared.PhoneRecord.{PhoneRecord}
+use Rattle.histories.specs.declared.Checked.{Checked}
+use Rattle.histories.specs.declared.Checked.the-variants as checking
+use Rattle.histories.specs.Committed.{Committed}
+use Rattle.histories.specs.Checking.{checkOf}
+use Rattle.histories.proofs.Obeying.{Says}
+use Rattle.histories.proofs.Exactly as exactly
+use Rattle.histories.proofs.Results as checked
+use Rattle.honest.specs.Promise.{Made, LongestPromised, HonestPromised}
+use Rattle.honest.specs.Lines.{HonestInTexts}
+use Rattle.honest.specs.Savings.{HonestCarried}
+use Rattle.honest.proofs.Longest as longest
+use Rattle.honest.proofs.Promise as honest
+use Rattle.honest.proofs.Lines as honest-lines
+use Rattle.honest.proofs.Savings as honest-savings
+use Rattle.honest.proofs.Example as phones
 use Rattle.safety.specs.Newest.{NewestPromised, NewestRun, readAfter}
 use Rattle.safety.proofs.Newest as newest
 use Rattle.safety.proofs.NewestExample as overtaken
@@ -402,6 +418,34 @@ no-time-is-the-old-write = zero-time.zero-time
 -- no broken phone pushes the clocks to their end: no time is more than 600 above the greatest wall clock, and wall clocks never fall
 pub no-phone-pushes-the-clocks : ClocksPromised
 no-phone-pushes-the-clocks = clocks.clocks-held
+
+-- ---- what the phones saw
+
+-- the answer of the check is decided, whatever records and log are lent
+pub check-is : (records : RefT (List PhoneRecord)) (terms keys values ps ls : RefT (List ℕ)) → OneResult (checked.Allowed records terms keys values ps ls)
+check-is = checked.check
+
+-- each answer is given exactly where what it says holds: every record obeys, this one is the first that doesn't, or the refusal applies
+pub the-check-says-what-holds : (g : Committed) (rs : List PhoneRecord) (a : Checked) → (checkOf rs g ≡ a) ↔ Says g rs a
+the-check-says-what-holds g rs a = (exactly.given-only g rs a, exactly.given-when g rs a)
+
+-- beginnings that were covered are comparable, so there is a longest one, and a log of it alone will do
+pub there-is-a-longest-beginning : LongestPromised
+there-is-a-longest-beginning = longest.longest-beginning
+
+-- an honest phone is never accused: over steps, over a text's lines, and over savings
+pub an-honest-phone-is-never-accused : HonestPromised
+an-honest-phone-is-never-accused = honest.honest-phone
+
+pub an-honest-phone-over-lines : HonestInTexts
+an-honest-phone-over-lines = honest-lines.honest-text
+
+pub an-honest-phone-over-savings : HonestCarried
+an-honest-phone-over-savings = honest-savings.honest-carried
+
+-- a run of three phones with an election and a rollback; the report that was never acknowledged is named
+pub three-phones : Made (freshCluster 3) phones.steps [] [] phones.records × (checkOf phones.records phones.committed ≡ checking.Accepted)
+three-phones = (phones.made, phones.accepted)
 
 -- ---- what the definitions mean, beside document 01
 
