@@ -11,7 +11,7 @@ use std::path::{Path, PathBuf};
 use std::process::ExitCode;
 
 /// Where the following starts: a module and what it defines.
-const ROOTS: [(&str, &str); 29] = [
+const ROOTS: [(&str, &str); 31] = [
     ("rules.Rules", "stepOf"),
     ("replay.Texts", "answers"),
     ("replay.Texts", "leaves"),
@@ -41,10 +41,12 @@ const ROOTS: [(&str, &str); 29] = [
     ("honest.Promise", "HonestPromised"),
     ("honest.Lines", "HonestInTexts"),
     ("honest.Savings", "HonestCarried"),
+    ("histories.Reasons", "Because"),
+    ("honest.Verdicts", "VerdictPromised"),
 ];
 /// What the claims decide completely by other definitions, so that its own need not be believed: it
 /// is named, and not followed.
-const DECIDED: [(&str, &str); 1] = [("loads.Loads", "loadOf")];
+const DECIDED: [(&str, &str); 2] = [("loads.Loads", "loadOf"), ("verdicts.Verdicts", "verdictOn")];
 /// Modules that hold the words of claims and nothing else: all that they define.
 const WORDS: [&str; 3] = ["steps.Reasons", "rules.Statements", "loads.Statements"];
 /// What a type's module is named by, as `log.declared.Entry`, where its definition is its declaration.
@@ -89,10 +91,12 @@ fn read_modules(crates: &Path) -> io::Result<BTreeMap<String, Module>> {
             modules.insert(format!("{room}.{stem}"), module(&fs::read_to_string(&path)?));
         }
         for path in files(&folder.path().join("src")) {
+            let stem = path.file_stem().unwrap_or_default().to_string_lossy();
+            let below = if stem == "lib" { String::new() } else { format!("{stem}.") };
             for (name, lines) in declarations(&fs::read_to_string(&path)?) {
                 let mut module = Module::default();
                 module.definitions.insert(name.clone(), lines);
-                modules.insert(format!("{room}{DECLARED}{name}"), module);
+                modules.insert(format!("{room}{DECLARED}{below}{name}"), module);
             }
         }
     }

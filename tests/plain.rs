@@ -33,9 +33,9 @@ plain --tally < steps    writes instead how often each kind was done and how oft
                          something that lines can reach never occurred
 plain --check PHONES < steps
                          writes instead what comes of the phones' records in that file, in a line:
-                         accepted N, refusal 1 at line L, refusal 2, refusal 3 or record K at line L;
-                         exits 0 only where they are accepted, and says on standard error where
-                         there was no start or more than one
+                         accepted N, refusal 1 at line L, no start, refusal 2, refusal 3 or
+                         record K at line L; exits 0 only where they are accepted, and says on
+                         standard error where there was more than one start
 plain --help             writes this
 
 A record that can't be loaded or saved is refused: the refusal's number is written to standard error
@@ -162,13 +162,22 @@ fn write_tally() -> io::Result<ExitCode> {
 fn write_check(phones: &str) -> io::Result<ExitCode> {
     let text = fs::read(phones)?;
     let covered = covered_by(standard_input())?;
-    if covered.starts != 1 {
-        eprintln!("plain: {} starts; the log is that of the last, or empty", covered.starts);
+    if covered.starts > 1 {
+        eprintln!("plain: {} starts; the log is that of the last", covered.starts);
     }
-    let verdict = check_text(&covered.entries, &text);
-    println!("{verdict}");
-    let accepted = matches!(verdict, Verdict::Accepted(_));
-    Ok(if accepted { ExitCode::SUCCESS } else { ExitCode::FAILURE })
+    let told = told(&covered, &text);
+    println!("{told}");
+    Ok(if told.starts_with("accepted ") { ExitCode::SUCCESS } else { ExitCode::FAILURE })
+}
+
+/// The words of the verdict. A bad line comes first; without a start there is nothing to check
+/// against.
+fn told(covered: &Covered, text: &[u8]) -> String {
+    match check_text(&covered.entries, text) {
+        bad @ Verdict::BadLine(_) => bad.to_string(),
+        _ if covered.starts == 0 => "no start".to_string(),
+        verdict => verdict.to_string(),
+    }
 }
 
 fn covered_by(input: impl BufRead) -> io::Result<Covered> {

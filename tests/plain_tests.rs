@@ -299,3 +299,19 @@ fn the_may_sample() {
     let others: String = lines.filter(|(number, _)| *number != 2).map(|(_, line)| line).collect();
     assert_eq!(check_text(&covered.entries, others.as_bytes()), Verdict::Accepted(5));
 }
+
+/// A bad line comes first, and without a start nothing is checked.
+#[test]
+fn without_a_start_nothing_is_checked() {
+    let (none, some) = (Covered::default(), Covered { starts: 1, ..Covered::default() });
+    let verdicts = [
+        ("x", "refusal 1 at line 1", "refusal 1 at line 1"),
+        ("00010b050000000000000000", "no start", "accepted 1"),
+        ("00010b050001000000000000", "no start", "record 0 at line 1"),
+        ("", "no start", "accepted 0"),
+    ];
+    for (text, without, with) in verdicts {
+        let text = text.as_bytes();
+        assert_eq!([told(&none, text), told(&some, text)], [without, with]);
+    }
+}

@@ -117,18 +117,22 @@ use Rattle.safety.proofs.Clocks as clocks
 use Rattle.histories.specs.declared.PhoneRecord.{PhoneRecord}
 use Rattle.histories.specs.declared.Checked.{Checked}
 use Rattle.histories.specs.declared.Checked.the-variants as checking
-use Rattle.histories.specs.Committed.{Committed}
-use Rattle.histories.specs.Checking.{checkOf}
+use Rattle.histories.specs.Committed.{Committed, entriesOf}
+use Rattle.histories.specs.Checking.{recordAt, checkOf}
+use Rattle.histories.specs.Reasons.{whyOf, Because}
 use Rattle.histories.proofs.Obeying.{Says}
 use Rattle.histories.proofs.Exactly as exactly
+use Rattle.histories.proofs.Reasons as reasons
 use Rattle.histories.proofs.Results as checked
 use Rattle.honest.specs.Promise.{Made, LongestPromised, HonestPromised}
 use Rattle.honest.specs.Lines.{HonestInTexts}
 use Rattle.honest.specs.Savings.{HonestCarried}
+use Rattle.honest.specs.Verdicts.{VerdictPromised}
 use Rattle.honest.proofs.Longest as longest
 use Rattle.honest.proofs.Promise as honest
 use Rattle.honest.proofs.Lines as honest-lines
 use Rattle.honest.proofs.Savings as honest-savings
+use Rattle.honest.proofs.Verdicts as honest-verdicts
 use Rattle.honest.proofs.Example as phones
 use Rattle.safety.specs.Newest.{NewestPromised, NewestRun, readAfter}
 use Rattle.safety.proofs.Newest as newest
@@ -442,6 +446,15 @@ an-honest-phone-over-lines = honest-lines.honest-text
 
 pub an-honest-phone-over-savings : HonestCarried
 an-honest-phone-over-savings = honest-savings.honest-carried
+
+-- the program's verdict on any two texts, the step lines and the records, is what it has to be, and it never accuses an honest phone
+pub the-verdict-is-right : VerdictPromised
+the-verdict-is-right = honest-verdicts.verdicts
+
+-- what is told of a record that is named is a rule that it breaks
+pub a-named-record-breaks-what-is-told : (g : Committed) (rs : List PhoneRecord) (n : ℕ) → checkOf rs g ≡ checking.Breaks n
+    → Because (entriesOf g) (take n rs) (recordAt rs n) (whyOf (entriesOf g) (recordAt rs n))
+a-named-record-breaks-what-is-told = reasons.named-because
 
 -- a run of three phones with an election and a rollback; the report that was never acknowledged is named
 pub three-phones : Made (freshCluster 3) phones.steps [] [] phones.records × (checkOf phones.records phones.committed ≡ checking.Accepted)

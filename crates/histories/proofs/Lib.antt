@@ -7,4 +7,6 @@ pub mod Obeying
 pub mod Judged
 pub mod Exactly
 pub mod Holding
+pub mod Reasons
+pub mod Enough
 pub mod Results

@@ -8,7 +8,9 @@ use clock::Time;
 use steps::Refusal;
 
 mod committed;
-mod obeys;
+pub mod kept;
+pub mod obeys;
+pub mod why;
 
 // What a phone logged of a majority write or a majority read that was answered. A session is as wide as every other number
 // that a line of hexadecimal has room for.
@@ -38,7 +40,7 @@ pub const WRITE_KIND: u8 = 6;
 
 pub const READ_KIND: u8 = 11;
 
-const NO_RECORD: PhoneRecord = PhoneRecord {
+pub const NO_RECORD: PhoneRecord = PhoneRecord {
     session: 0,
     kind: 0,
     key: 0,

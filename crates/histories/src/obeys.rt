@@ -9,7 +9,7 @@ use crate::committed;
 use log::Entry;
 
 // Whether a record is of one of the two kinds, and its key is not above 15.
-pub(crate) fn in_range(r: PhoneRecord) -> bool
+pub fn in_range(r: PhoneRecord) -> bool
     ensures { λ q. ⌜ q ≡ inRange r ⌝ }
 {
     if log::HIGHEST_KEY < r.key {
@@ -59,7 +59,7 @@ fn write_obeys(
 }
 
 // Whether a record's time is not before that of an earlier one, unless that is of another session.
-fn not_before(e: PhoneRecord, r: PhoneRecord) -> bool
+pub fn not_before(e: PhoneRecord, r: PhoneRecord) -> bool
     ensures { λ q. ⌜ q ≡ notBefore e r ⌝ }
 {
     if e.session != r.session {

@@ -9,4 +9,5 @@ pub mod WriteRecords
 pub mod Promise
 pub mod Lines
 pub mod Savings
+pub mod Verdicts
 pub mod Example

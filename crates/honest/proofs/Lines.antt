@@ -2,6 +2,7 @@
 -- Assumes nothing.
 use mathlib.Core.Path.{_≡_, refl, ap, _∙_, subst}
 use mathlib.Core.List.{List, [], _∷_}
+use Prim.Native.Nat.{ℕ}
 use Rattle.log.specs.declared.Entry.{Entry}
 use Rattle.cluster.specs.declared.Cluster.{Cluster}
 use Rattle.steps.specs.declared.Step.{Step}
@@ -11,11 +12,11 @@ use Rattle.frames.specs.declared.ReadStep.the-variants as R
 use Rattle.frames.specs.Steps.{readStep}
 use Rattle.replay.specs.Texts.{respond, answerTo, recordsOn}
 use Rattle.histories.specs.Longest.{longerOf, longestOf}
-use Rattle.demand3.specs.Promise.{Line}
+use Rattle.demand3.specs.Promise.{Line, Stretch}
 use Rattle.demand3.specs.Lines.{joined, stepsIn}
 use Rattle.demand3.proofs.Stretches.{begun, steps-until}
-use Rattle.honest.specs.Promise.{Made, recordsOf, HoldsAll}
-use Rattle.honest.specs.Lines.{HonestInTexts}
+use Rattle.honest.specs.Promise.{Made, recordsOf, longest, HoldsAll}
+use Rattle.honest.specs.Lines.{longestIn, HonestInTexts}
 use Rattle.honest.proofs.Folds.{longer-again}
 use Rattle.honest.proofs.Promise.{honest-phone}
 
@@ -34,8 +35,12 @@ same-longest es c (l ∷ ls) = go (readStep l) (λ d. same-longest (longerOf es 
     go (R.Step s) more = more (stepOf c s .cluster)
     go R.NoFrame more = more c ∙ counts-once es c (stepsIn ls)
 
+-- the longest beginning of a stretch is that of its steps
+pub longest-is : {text : List ℕ} (t : Stretch text) → longestIn t ≡ longest (t .count) (stepsIn (t .until))
+longest-is t = same-longest [] _ (t .until) ∙ ap (λ (c : Cluster). longestOf [] (recordsOf c (stepsIn (t .until)))) (begun t .is)
+
 pub honest-text : HonestInTexts
 honest-text text t rs g made few holds =
     honest-phone (t .count) (stepsIn (t .until)) rs g (begun t .fewest) (begun t .most) (steps-until t)
     (subst (λ (c : Cluster). Made c (stepsIn (t .until)) [] [] rs) (begun t .is) made) few
-    (subst (λ (es : List Entry). HoldsAll es g) (same-longest [] _ (t .until) ∙ ap (λ (c : Cluster). longestOf [] (recordsOf c (stepsIn (t .until)))) (begun t .is)) holds)
+    (subst (λ (es : List Entry). HoldsAll es g) (longest-is t) holds)

@@ -8,4 +8,5 @@ pub mod Ahead
 pub mod Planned
 pub mod Ends
 pub mod Refused
+pub mod Folded
 pub mod Results

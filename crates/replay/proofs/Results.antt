@@ -12,8 +12,9 @@ use Rattle.frames.specs.Steps.{readStep}
 use Rattle.replay.specs.declared.Reader.{Reader}
 use Rattle.replay.specs.declared.Session.{Session}
 use Rattle.replay.specs.Texts.{respond}
-use Rattle.replay.specs.Pieces.{begun, lineHeld, pushOf, isEmpty, fedOf, fedOut, finishOf, finishOut}
+use Rattle.replay.specs.Pieces.{freshReader, begun, lineHeld, pushOf, isEmpty, fedOf, fedOut, finishOf, finishOut}
 use Rattle.replay.specs.Plans.{planOf}
+use Rattle.replay.proofs.fresh_reader.Reads as fresh-reader-reads
 use Rattle.replay.proofs.begin.Reads as begin-reads
 use Rattle.replay.proofs.pushed.Reads as pushed-reads
 use Rattle.replay.proofs.step_held.Reads as step-held-reads
@@ -22,6 +23,9 @@ use Rattle.replay.proofs.feed.Reads as feed-reads
 use Rattle.replay.proofs.is_empty.Reads as is-empty-reads
 use Rattle.replay.proofs.respond_to.Reads as respond-to-reads
 use Rattle.replay.proofs.finish.Reads as finish-reads
+
+pub fresh-reader : OneResult (λ x. fresh-reader-reads.Learnt tt tt x tt)
+fresh-reader = one-result freshReader
 
 pub begin : (c : Cluster) → OneResult (λ x. begin-reads.Learnt tt (c, tt) x (c, tt))
 begin c = one-result (begun c)

@@ -28,7 +28,7 @@ use Rattle.replay.proofs.Lines.{Plain, none, more, plain-snoc, line-fir
 abbrev pub StandsFor : Reader → List ℕ → Type 0
 StandsFor r p = Held.StandsFor kept (r .held) (r .fill) (r .over) p
 
-fresh-holds : StandsFor freshReader []
+pub fresh-holds : StandsFor freshReader []
 fresh-holds = empty-stands refl refl
 
 pub push-holds : (r : Reader) {p : List ℕ} (b : ℕ) → StandsFor r p → StandsFor (pushOf r b) (p ++ (b ∷ []))

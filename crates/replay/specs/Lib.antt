@@ -2,3 +2,4 @@
 pub mod Texts
 pub mod Pieces
 pub mod Plans
+pub mod Folds

@@ -63,7 +63,8 @@ pub enum Plan {
     Record(Step),
 }
 
-fn fresh_reader() -> Reader
+// A reader that has read nothing of a line.
+pub fn fresh_reader() -> Reader
     ensures { λ r. ⌜ r ≡ freshReader ⌝ }
 {
     Reader {

@@ -89,7 +89,7 @@ none-given (pos n) buffer before e = go (eqb n 0) refl e
 none-given (negsuc n) buffer before e = (e, refl)
 
 -- one piece more
-together-more : (xs : List (List ℕ)) (x : List ℕ) → together (xs ++ (x ∷ [])) ≡ together xs ++ x
+pub together-more : (xs : List (List ℕ)) (x : List ℕ) → together (xs ++ (x ∷ [])) ≡ together xs ++ x
 together-more [] x = append-nil x
 together-more (y ∷ ys) x = ap (λ (l : List ℕ). y ++ l) (together-more ys x) ∙ sym (append-assoc y (together ys) x)
 

@@ -1,0 +1,3 @@
+-- What is followed along a run. Assumes nothing.
+pub mod Longest
+pub mod Follow

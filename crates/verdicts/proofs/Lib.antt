@@ -1,0 +1,4 @@
+-- Laws of the verdict. Assumes nothing.
+pub mod Filled
+pub mod Judged
+pub mod Results

@@ -1,0 +1,2 @@
+-- The verdict on what phones saw. Assumes nothing.
+pub mod Verdicts
