@@ -52,7 +52,7 @@ const WORDS: [&str; 3] = ["steps.Reasons", "rules.Statements", "loads.Statements
 /// What a type's module is named by, as `log.declared.Entry`, where its definition is its declaration.
 const DECLARED: &str = ".declared.";
 /// How many lines they may be.
-const MOST: usize = 1320;
+const MOST: usize = 1370;
 
 /// A definition by its module, as `log.Entries`, and its name.
 type Place = (String, String);
