@@ -1,4 +1,4 @@
--- Laws over the program's two loops. Assumes nothing.
+-- Laws over the program's loop, and over the records that its sentence names. Assumes nothing.
 pub mod Turns
-pub mod Texts
+pub mod Both
 pub mod Found

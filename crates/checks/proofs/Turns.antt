@@ -1,6 +1,6 @@
--- A loop that reads a descriptor, whatever is done with the pieces: a law for each way that a turn can go. Assumes nothing.
+-- The loop that reads a descriptor: a law for each way that a turn can go. Assumes nothing.
 use mathlib.Core.Path.{_≡_, refl, sym, ap, _∙_}
-use mathlib.Core.Bool.{true, false}
+use mathlib.Core.Bool.{Bool, true, false}
 use mathlib.Core.List.{List, [], _∷_, _++_}
 use Prim.Native.Nat.{ℕ, _≤_, _<_, _+_, _-_}
 use native.Mathlib.Omega.{arith}
@@ -18,73 +18,100 @@ use Rattle.shell.specs.declared.End.the-variants.{More, Input, CannotRead}
 use Rattle.shell.specs.Loop.{mostTurns, endOf, given}
 use Rattle.shell.proofs.Loop.{signed-is, signed-below, none}
 use Rattle.shell.proofs.Saving.{together-more}
-use Rattle.checks.specs.Reading.{Turned, ReadOn}
+use Rattle.followed.specs.declared.Following.{Following}
+use Rattle.followed.specs.Follow.{followedBy}
+use Rattle.followed.proofs.Followed.{followed-append}
+use Rattle.phones.specs.declared.Listing.{Listing}
+use Rattle.phones.specs.Listed.{listedBy}
+use Rattle.phones.proofs.Texts.{listed-append}
+use Rattle.checks.specs.declared.texts.Texts.{Texts}
+use Rattle.checks.specs.Reading.{takenBy, Turned, ReadOn}
 
--- no piece leaves it as it is, and two pieces are taken like the text that they are
-pub record Takes {A : Type 0} (takes : A → List ℕ → A) : Type 0 where
-  pub nothing : (a : A) → takes a [] ≡ a
-  pub append : (a : A) (x y : List ℕ) → takes a (x ++ y) ≡ takes (takes a x) y
+-- a piece of the one text or of the other
+module _ (t : Texts) (piece : List ℕ) where
+  pub takes-steps : (steps : Bool) (f : Following) → steps ≡ true → f ≡ followedBy (t .following) piece
+      → _≡_ {A = Texts} (record { following = f; listing = t .listing }) (takenBy steps t piece)
+  takes-steps steps f e p = rw (e, p)
 
-module _ {A : Type 0} {takes : A → List ℕ → A} (T : Takes takes) where
+  pub takes-phones : (steps : Bool) (l : Listing) → steps ≡ false → l ≡ listedBy (t .listing) piece
+      → _≡_ {A = Texts} (record { following = t .following; listing = l }) (takenBy steps t piece)
+  takes-phones steps l e p = rw (e, p)
+
+module _ (steps : Bool) where
+  -- no piece leaves both as they are, and two pieces are taken like the text that they are
+  takes-nothing : (t : Texts) → takenBy steps t [] ≡ t
+  takes-nothing t = go steps
+    where
+      go : (b : Bool) → takenBy b t [] ≡ t
+      go true = refl
+      go false = refl
+
+  takes-append : (t : Texts) (x y : List ℕ) → takenBy steps t (x ++ y) ≡ takenBy steps (takenBy steps t x) y
+  takes-append t x y = go steps
+    where
+      go : (b : Bool) → takenBy b t (x ++ y) ≡ takenBy b (takenBy b t x) y
+      go true = cc (followed-append (t .following) x y)
+      go false = cc (listed-append (t .listing) x y)
+
   -- ---- one turn
 
-  module _ (a : A) (buffer : List ℕ) (got : ℤ) (f : SFits w64 got) where
+  module _ (a : Texts) (buffer : List ℕ) (got : ℤ) (f : SFits w64 got) where
     -- the read answered 0
-    pub turned-end : ofZ w64 got ≡ 0 → Turned takes a buffer got a Input
+    pub turned-end : ofZ w64 got ≡ 0 → Turned steps a buffer got a Input
     unfolding endOf
     turned-end e =
         rw (signed-is got 0 f e)
-        record { state = sym (T .nothing a) ∙ ap (λ (k : ℕ). takes a (take k buffer)) (none (length buffer)); ends = refl }
+        record { state = sym (takes-nothing a) ∙ ap (λ (k : ℕ). takenBy steps a (take k buffer)) (none (length buffer)); ends = refl }
 
     -- the read answered that it failed
-    pub turned-failed : ltZ (toZ w64 (ofZ w64 got)) (pos 0) ≡ true → Turned takes a buffer got a CannotRead
+    pub turned-failed : ltZ (toZ w64 (ofZ w64 got)) (pos 0) ≡ true → Turned steps a buffer got a CannotRead
     unfolding endOf
     turned-failed e = go got (signed-below got true f e)
       where
-        go : (z : ℤ) → ltZ z (pos 0) ≡ true → Turned takes a buffer z a CannotRead
+        go : (z : ℤ) → ltZ z (pos 0) ≡ true → Turned steps a buffer z a CannotRead
         go (pos n) h = let l : n < 0 = ltb-true n 0 h in let z : ⊥ = omega arith in absurd z
-        go (negsuc n) h = record { state = sym (T .nothing a); ends = refl }
+        go (negsuc n) h = record { state = sym (takes-nothing a); ends = refl }
 
     -- the read answered some bytes
-    pub turned-piece : (n : ℕ) (b : A) → (ofZ w64 got ≡ 0 → ⊥) → ltZ (toZ w64 (ofZ w64 got)) (pos 0) ≡ false
-        → n ≡ clamped (toZ w64 (ofZ w64 got)) (length buffer) → b ≡ takes a (take n buffer) → Turned takes a buffer got b More
+    pub turned-piece : (n : ℕ) (b : Texts) → (ofZ w64 got ≡ 0 → ⊥) → ltZ (toZ w64 (ofZ w64 got)) (pos 0) ≡ false
+        → n ≡ clamped (toZ w64 (ofZ w64 got)) (length buffer) → b ≡ takenBy steps a (take n buffer) → Turned steps a buffer got b More
     unfolding endOf
     turned-piece n b some below e p =
         go got (signed-below got false f below) (λ z. some (ap (ofZ w64) z)) (e ∙ ap (λ (z : ℤ). clamped z (length buffer)) (toZ-ofZ w64 got f))
       where
-        go : (z : ℤ) → ltZ z (pos 0) ≡ false → (z ≡ pos 0 → ⊥) → n ≡ clamped z (length buffer) → Turned takes a buffer z b More
+        go : (z : ℤ) → ltZ z (pos 0) ≡ false → (z ≡ pos 0 → ⊥) → n ≡ clamped z (length buffer) → Turned steps a buffer z b More
         go (pos k) h some e =
-            record { state = p ∙ ap (λ (j : ℕ). takes a (take j buffer)) e; ends = rw (ne-eqb k 0 (λ z. some (ap pos z))) }
+            record { state = p ∙ ap (λ (j : ℕ). takenBy steps a (take j buffer)) e; ends = rw (ne-eqb k 0 (λ z. some (ap pos z))) }
         go (negsuc k) h some e = let z : _≡_ {A = ℕ} 0 1 = cc in let w : ⊥ = omega arith in absurd w
 
   -- ---- all turns
 
   -- some pieces were taken, so many that the rest of the turns is left
-  pub record Going (a b : A) (turns : ℕ) : Type 0 where
+  pub record Going (a b : Texts) (turns : ℕ) : Type 0 where
     pub pieces : List (List ℕ)
-    pub state : b ≡ takes a (together pieces)
+    pub state : b ≡ takenBy steps a (together pieces)
     pub left : length pieces + turns ≡ mostTurns
 
-  pub begins : (a : A) → Going a a mostTurns
-  begins a = record { pieces = []; state = sym (T .nothing a); left = refl }
+  pub begins : (a : Texts) → Going a a mostTurns
+  begins a = record { pieces = []; state = sym (takes-nothing a); left = refl }
 
-  module _ {a b : A} {turns : ℕ} (g : Going a b turns) where
-    pub goes-on : (buffer : List ℕ) (got : ℤ) (d : A) (end : End) → 0 < turns → Turned takes b buffer got d end → Going a d (turns - 1)
+  module _ {a b : Texts} {turns : ℕ} (g : Going a b turns) where
+    pub goes-on : (buffer : List ℕ) (got : ℤ) (d : Texts) (end : End) → 0 < turns → Turned steps b buffer got d end → Going a d (turns - 1)
     goes-on buffer got d end h t =
         let xs = given got buffer in
         record {
           pieces = g .pieces ++ (xs ∷ []);
           state =
-              t .state ∙ ap (λ (x : A). takes x xs) (g .state) ∙ sym (T .append a (together (g .pieces)) xs)
-              ∙ sym (ap (takes a) (together-more (g .pieces) xs));
+              t .state ∙ ap (λ (x : Texts). takenBy steps x xs) (g .state) ∙ sym (takes-append a (together (g .pieces)) xs)
+              ∙ sym (ap (takenBy steps a) (together-more (g .pieces) xs));
           left = omega (arith, length-append (g .pieces) (xs ∷ []), g .left);
         }
 
-    pub stops : (buffer : List ℕ) (got : ℤ) (d : A) (end : End) → 0 < turns → Turned takes b buffer got d end → (end ≡ More → ⊥) → ReadOn takes a d end
+    pub stops : (buffer : List ℕ) (got : ℤ) (d : Texts) (end : End) → 0 < turns → Turned steps b buffer got d end → (end ≡ More → ⊥) → ReadOn steps a d end
     stops buffer got d end h t over =
         let n = goes-on buffer got d end h t in
         record { pieces = n .pieces; state = n .state; last = got; ends = t .ends; patient = λ e. absurd (over e) }
 
-    pub gives-up : turns ≤ 0 → ReadOn takes a b More
+    pub gives-up : turns ≤ 0 → ReadOn steps a b More
     unfolding endOf
     gives-up h = record { pieces = g .pieces; state = g .state; last = pos 1; ends = refl; patient = λ e. omega (arith, g .left) }

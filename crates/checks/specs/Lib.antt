@@ -1,3 +1,3 @@
--- What the program's two loops do with what they read, and which records a sentence names. Assumes nothing.
+-- What the program's loop does with what it reads, and which records a sentence names. Assumes nothing.
 pub mod Reading
 pub mod Finding

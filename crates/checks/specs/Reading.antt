@@ -1,40 +1,57 @@
--- A text that is read from a descriptor, whatever is done with its pieces: what a turn does with what was read, and the pieces that it all
--- was. Nobody has to believe this: what the program's loops do follows. Assumes nothing.
+-- Two texts that are read from their descriptors: what a turn does with what was read, and the pieces that it all was. Nobody has to believe
+-- this: what the program's loop does follows. Assumes nothing.
 use mathlib.Core.Path.{_≡_}
 use mathlib.Core.List.{List}
-use mathlib.Core.Bool.{true}
+use mathlib.Core.Bool.{Bool, true, false, cond}
 use Prim.Native.Nat.{ℕ}
 use lib.ListN.{length}
 use lib.IntN.{ℤ}
 use Rattle.replay.specs.Pieces.{together}
 use Rattle.shell.specs.declared.End.{End}
-use Rattle.shell.specs.declared.End.the-variants.{More}
+use Rattle.shell.specs.declared.End.the-variants.{More, Input, CannotRead, CannotWrite}
 use Rattle.shell.specs.Loop.{mostTurns, endOf, given}
-use Rattle.followed.specs.Follow.{runOf}
-use Rattle.phones.specs.Listed.{listOf}
-use Rattle.checks.specs.declared.runs.Whole.{Whole as WholeRun}
-use Rattle.checks.specs.declared.lists.Whole.{Whole as WholeList}
+use Rattle.followed.specs.Follow.{runOf, newFollowing, followedBy}
+use Rattle.phones.specs.Listed.{listOf, newListing, listedBy}
+use Rattle.checks.specs.declared.texts.Texts.{Texts}
+use Rattle.checks.specs.declared.texts.Both.{Both}
 
-module _ {A : Type 0} (takes : A → List ℕ → A) where
+abbrev pub newTexts : Texts
+newTexts = record { following = newFollowing; listing = newListing }
+
+-- one piece more, of the step lines or of the phones' records
+abbrev pub takenBy : Bool → Texts → List ℕ → Texts
+takenBy true t piece = record { following = followedBy (t .following) piece; listing = t .listing }
+takenBy false t piece = record { following = t .following; listing = listedBy (t .listing) piece }
+
+module _ (steps : Bool) where
   -- one turn: every byte that was given is taken, and the turn ends as it must
-  pub record Turned (a : A) (buffer : List ℕ) (got : ℤ) (b : A) (end : End) : Type 0 where
-    pub state : b ≡ takes a (given got buffer)
+  pub record Turned (t : Texts) (buffer : List ℕ) (got : ℤ) (u : Texts) (end : End) : Type 0 where
+    pub state : u ≡ takenBy steps t (given got buffer)
     pub ends : end ≡ endOf got true
 
   -- all turns: some pieces were taken, and it stopped for what the last read answered; it gives up with more to read only after so many
   -- turns as nobody lives to see
-  pub record ReadOn (a b : A) (end : End) : Type 0 where
+  pub record ReadOn (t u : Texts) (end : End) : Type 0 where
     pub pieces : List (List ℕ)
-    pub state : b ≡ takes a (together pieces)
+    pub state : u ≡ takenBy steps t (together pieces)
     pub last : ℤ
     pub ends : end ≡ endOf last true
     pub patient : end ≡ More → length pieces ≡ mostTurns
 
--- a whole input: where all went well, the run is the one that its pieces, as one text, are; and likewise a list
-pub record FollowsAll (r : WholeRun) : Type 0 where
-  pub pieces : List (List ℕ)
-  pub followed : r .well ≡ true → r .run ≡ runOf (together pieces)
+-- all was read
+abbrev pub isInput : End → Bool
+isInput More = false
+isInput Input = true
+isInput CannotRead = false
+isInput CannotWrite = false
 
-pub record ListsAll (r : WholeList) : Type 0 where
-  pub pieces : List (List ℕ)
-  pub listed : r .well ≡ true → r .list ≡ listOf (together pieces)
+-- the run and the list are those that the pieces of each text, as one text, are; all of it was read where the last read answered that it ends
+pub record ReadsBoth (b : Both) : Type 0 where
+  pub steps : List (List ℕ)
+  pub followed : b .run ≡ runOf (together steps)
+  pub last-steps : ℤ
+  pub all-steps : b .steps ≡ isInput (endOf last-steps true)
+  pub phones : List (List ℕ)
+  pub listed : b .list ≡ listOf (together phones)
+  pub last-phones : ℤ
+  pub all-phones : b .phones ≡ isInput (endOf last-phones true)

@@ -1,19 +1,21 @@
--- `checks::lists::read_on` meets its contract. Assumes nothing.
+-- `checks::texts::read_on` meets its contract. Assumes nothing.
 use borrow.Author.Needs.{needs}
 use Rattle.shell.proofs.Loop.{over}
 use Rattle.checks.proofs.Turns.{Going, begins, goes-on, stops, gives-up}
-use Rattle.checks.proofs.Texts.{lists}
-use Rattle.checks.proofs.lists.read_on.Statement.{statement}
-use Rattle.checks.proofs.lists.read_on.Tie as tie
+use Rattle.checks.proofs.texts.read_on.Statement.{statement}
+use Rattle.checks.proofs.texts.read_on.Tie as tie
 
 abbrev Inv-loop : tie.InvT-loop
-Inv-loop d₀ turns₀ d turns = Going lists d₀ d turns
+Inv-loop steps d₀ turns₀ d turns = Going steps d₀ d turns
 
 abbrev μ-loop : tie.MeasureT-loop
-μ-loop d₀ turns₀ d turns = turns
+μ-loop steps d₀ turns₀ d turns = turns
 
 loop-holds : tie.Need-loop-holds Inv-loop μ-loop
-loop-holds c = begins lists _
+loop-holds c = begins _ _
+
+descriptor-requires : tie.Need-descriptor-requires Inv-loop μ-loop
+descriptor-requires c κs = search needs
 
 slice-aggregate-read : tie.Need-slice-aggregate-read Inv-loop μ-loop
 slice-aggregate-read c = search needs
@@ -33,8 +35,8 @@ enum-told c = search needs
 returns : tie.Need-returns Inv-loop μ-loop
 returns c =
     let turned = c .before .before in
-    let tested = turned .before .before .before .before .before in
-    stops lists (tested .before .loop .inv) _ _ _ _ (tested .loop-test .taken) (turned .turn .ensures) (over _ (c .match .keys2))
+    let tested = turned .before .before .before .before .before .before in
+    stops _ (tested .before .loop .inv) _ _ _ _ (tested .loop-test .taken) (turned .turn .ensures) (over _ (c .match .keys2))
 
 sub-turns : tie.Need-sub-turns Inv-loop μ-loop
 sub-turns c = search needs
@@ -45,11 +47,11 @@ loop-less c = search needs
 loop-again : tie.Need-loop-again Inv-loop μ-loop
 loop-again c =
     let turned = c .before .before .before in
-    let tested = turned .before .before .before .before .before in
-    goes-on lists (tested .before .loop .inv) _ _ _ _ (tested .loop-test .taken) (turned .turn .ensures)
+    let tested = turned .before .before .before .before .before .before in
+    goes-on _ (tested .before .loop .inv) _ _ _ _ (tested .loop-test .taken) (turned .turn .ensures)
 
 returns-2 : tie.Need-returns-2 Inv-loop μ-loop
-returns-2 c = gives-up lists (c .before .loop .inv) (c .loop-test .left)
+returns-2 c = gives-up _ (c .before .loop .inv) (c .loop-test .left)
 
 pub read-on-spec : {M : Type 1} → statement M
 read-on-spec =
@@ -58,6 +60,7 @@ read-on-spec =
     Inv-loop
     μ-loop
     loop-holds
+    descriptor-requires
     slice-aggregate-read
     read-requires
     slice-aggregate-turn
