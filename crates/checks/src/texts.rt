@@ -1,7 +1,6 @@
 // Both texts, each from its descriptor to its end: the step lines from standard input, and then the phones' records from the one that the
 // launcher opens. One loop does for both.
 ghost use mathlib.Core.Path.{_≡_};
-ghost use mathlib.Core.Bool.{true, false};
 ghost use Rattle.checks.specs.Reading.{newTexts, takenBy, isInput, Turned, ReadOn, ReadsBoth};
 use followed::Following;
 use followed::Run;
