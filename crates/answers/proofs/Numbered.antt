@@ -1,4 +1,4 @@
--- The refusal of each number from 1 to 11, and of no other. Assumes nothing.
+-- The refusal of each number from 1 to 12, and of no other. Assumes nothing.
 use mathlib.Core.Path.{_≡_, refl, sym}
 use mathlib.Core.Bool.{Bool, true, false, cond}
 use mathlib.Core.List.{List, [], _∷_}
@@ -8,7 +8,7 @@ use borrow.Author.Tests.{ne-eqb, eqb-true}
 use lib.Dec.{eqb}
 use lib.ListN.{length, getD}
 use Rattle.steps.specs.declared.Refusal.{Refusal}
-use Rattle.steps.specs.declared.Refusal.the-variants.{NotAFrame, IllFormed, OutOfRange, WrongRole, ConditionUnmet, LogFull, AtLimit, NotYet, BelowCommitPoint, NoSuchEntry, ClockAhead}
+use Rattle.steps.specs.declared.Refusal.the-variants.{NotAFrame, IllFormed, OutOfRange, WrongRole, ConditionUnmet, LogFull, AtLimit, NotYet, BelowCommitPoint, NoSuchEntry, ClockAhead, Retired}
 use Rattle.steps.specs.declared.Telling.{Telling}
 use Rattle.steps.specs.declared.Telling.the-variants.{Refusing}
 use Rattle.steps.specs.Refusals.{refusalNumber}
@@ -35,6 +35,7 @@ number-low NotYet = omega arith
 number-low BelowCommitPoint = omega arith
 number-low NoSuchEntry = omega arith
 number-low ClockAhead = omega arith
+number-low Retired = omega arith
 
 pub refusal-of-number : (r : Refusal) → refusalOf (refusalNumber r) ≡ R.Telling (Refusing r)
 unfolding refusalOf
@@ -49,13 +50,14 @@ refusal-of-number NotYet = refl
 refusal-of-number BelowCommitPoint = refl
 refusal-of-number NoSuchEntry = refl
 refusal-of-number ClockAhead = refl
+refusal-of-number Retired = refl
 
 -- the refusals stand in the order of their numbers
 pub in-order : (d : Refusal) (i : ℕ) → i < length refusals → R.Telling (Refusing (getD refusals i d)) ≡ refusalOf (suc i)
 unfolding refusalOf
 in-order d =
     case-at (λ i. R.Telling (Refusing (getD refusals i d)) ≡ numbered (suc i) refusals) (length refusals)
-    (refl ▸ refl ▸ refl ▸ refl ▸ refl ▸ refl ▸ refl ▸ refl ▸ refl ▸ refl ▸ refl ▸ tt)
+    (refl ▸ refl ▸ refl ▸ refl ▸ refl ▸ refl ▸ refl ▸ refl ▸ refl ▸ refl ▸ refl ▸ refl ▸ tt)
 
 none-numbered : (n : ℕ) (rs : List Refusal) → length refusals < n → numbered n rs ≡ R.NoFrame
 none-numbered n [] h = refl

@@ -6,7 +6,7 @@ use lib.Dec.{eqb}
 use Rattle.clock.specs.declared.Time.{Time}
 use Rattle.clock.specs.Times.{zeroTime, sameTime}
 use Rattle.steps.specs.declared.Refusal.{Refusal}
-use Rattle.steps.specs.declared.Refusal.the-variants.{NotAFrame, IllFormed, OutOfRange, WrongRole, ConditionUnmet, LogFull, AtLimit, NotYet, BelowCommitPoint, NoSuchEntry, ClockAhead}
+use Rattle.steps.specs.declared.Refusal.the-variants.{NotAFrame, IllFormed, OutOfRange, WrongRole, ConditionUnmet, LogFull, AtLimit, NotYet, BelowCommitPoint, NoSuchEntry, ClockAhead, Retired}
 use Rattle.steps.specs.declared.Answer.{Answer}
 use Rattle.steps.specs.declared.Telling.{Telling}
 use Rattle.steps.specs.declared.Telling.the-variants.{Numbers, Refusing}
@@ -49,7 +49,7 @@ writeAnswer a = writeTelling (tellingOf a)
 abbrev pub refusals : List Refusal
 refusals =
     NotAFrame ∷ IllFormed ∷ OutOfRange ∷ WrongRole ∷ ConditionUnmet ∷ LogFull ∷ AtLimit ∷ NotYet ∷ BelowCommitPoint ∷ NoSuchEntry
-    ∷ ClockAhead ∷ []
+    ∷ ClockAhead ∷ Retired ∷ []
 
 -- the refusal among these that has the number n
 abbrev pub numbered : ℕ → List Refusal → ReadAnswer

@@ -25,7 +25,7 @@ pub const ANSWER_CHARS: usize = hex::CHARS * ANSWER_BYTES;
 // The first byte of an answer that is no refusal.
 const DONE: u8 = 0;
 
-const REFUSALS: usize = 11;
+const REFUSALS: usize = 12;
 
 // The refusals in the order of their numbers, from 1.
 const IN_ORDER: [Refusal; REFUSALS] = [
@@ -40,6 +40,7 @@ const IN_ORDER: [Refusal; REFUSALS] = [
     Refusal::BelowCommitPoint,
     Refusal::NoSuchEntry,
     Refusal::ClockAhead,
+    Refusal::Retired,
 ];
 
 fn refusal_number(r: Refusal) -> u8
@@ -57,6 +58,7 @@ fn refusal_number(r: Refusal) -> u8
         Refusal::BelowCommitPoint => 9,
         Refusal::NoSuchEntry => 10,
         Refusal::ClockAhead => 11,
+        Refusal::Retired => 12,
     }
 }
 

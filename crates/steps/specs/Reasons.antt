@@ -4,7 +4,7 @@ use mathlib.Core.List.{[], _∷_}
 use mathlib.Core.Bool.{Bool, true, false}
 use Prim.Native.Nat.{ℕ}
 use Rattle.steps.specs.declared.Refusal.{Refusal}
-use Rattle.steps.specs.declared.Refusal.the-variants.{NotAFrame, IllFormed, OutOfRange, WrongRole, ConditionUnmet, LogFull, AtLimit, NotYet, BelowCommitPoint, NoSuchEntry, ClockAhead}
+use Rattle.steps.specs.declared.Refusal.the-variants.{NotAFrame, IllFormed, OutOfRange, WrongRole, ConditionUnmet, LogFull, AtLimit, NotYet, BelowCommitPoint, NoSuchEntry, ClockAhead, Retired}
 use Rattle.steps.specs.Refusals.{Rules}
 
 -- every test passes: each fact is a part
@@ -22,16 +22,17 @@ pub data Applies : Rules → Refusal → Type 0 where
   first : {b : Bool} {r : Refusal} {rs : Rules} → b ≡ false → Applies ((b, r) ∷ rs) r
   among : {b : Bool} {n r : Refusal} {rs : Rules} → Applies rs r → Applies ((b, n) ∷ rs) r
 
--- the order in which refusals are considered, one for all kinds: 1, 2, 3, 11, 4, 5, 6, 7, 10, 8, 9
+-- the order in which refusals are considered, one for all kinds: 1, 2, 3, 11, 12, 4, 5, 6, 7, 10, 8, 9
 abbrev pub rankOf : Refusal → ℕ
 rankOf NotAFrame = 1
 rankOf IllFormed = 2
 rankOf OutOfRange = 3
 rankOf ClockAhead = 4
-rankOf WrongRole = 5
-rankOf ConditionUnmet = 6
-rankOf LogFull = 7
-rankOf AtLimit = 8
-rankOf NoSuchEntry = 9
-rankOf NotYet = 10
-rankOf BelowCommitPoint = 11
+rankOf Retired = 5
+rankOf WrongRole = 6
+rankOf ConditionUnmet = 7
+rankOf LogFull = 8
+rankOf AtLimit = 9
+rankOf NoSuchEntry = 10
+rankOf NotYet = 11
+rankOf BelowCommitPoint = 12

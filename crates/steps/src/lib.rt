@@ -68,6 +68,7 @@ pub enum Refusal {
     BelowCommitPoint,
     NoSuchEntry,
     ClockAhead,
+    Retired,
 }
 
 // An answer carries either its numbers or one refusal, never both.

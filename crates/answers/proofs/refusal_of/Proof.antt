@@ -15,11 +15,11 @@ returns c = sym (ap refusalOf (c .if1 .taken))
 returns-2 : tie.Need-returns-2
 returns-2 c = sym (no-refusal _ (c .if2 .taken))
 
-sub-t16 : tie.Need-sub-t16
-sub-t16 c = search needs
+sub-t17 : tie.Need-sub-t17
+sub-t17 c = search needs
 
-array-copy-out-t19 : tie.Need-array-copy-out-t19
-array-copy-out-t19 c = search needs
+array-copy-out-t20 : tie.Need-array-copy-out-t20
+array-copy-out-t20 c = search needs
 
 returns-3 : tie.Need-returns-3
 returns-3 c =
@@ -28,4 +28,4 @@ returns-3 c =
     in-order _ (n - 1) (omega arith) ∙ ap refusalOf e
 
 pub refusal-of-spec : {M : Type 1} → statement M
-refusal-of-spec = tie.close (tie.spec returns returns-2 sub-t16 array-copy-out-t19 returns-3)
+refusal-of-spec = tie.close (tie.spec returns returns-2 sub-t17 array-copy-out-t20 returns-3)
