@@ -1,3 +1,3 @@
--- Laws of the kinds that count servers. Assumes nothing.
+-- Laws of the kind that counts servers. Assumes nothing.
 pub mod Passing
 pub mod Results

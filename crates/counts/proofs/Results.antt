@@ -4,14 +4,10 @@ use Rattle.base.proofs.Results.{OneResult, one-result}
 use Rattle.cluster.specs.declared.Cluster.{Cluster}
 use Rattle.cluster.specs.declared.Server.{Server}
 use Rattle.cluster.specs.Servers.{mostServers}
-use Rattle.counts.specs.Acknowledged.{acknowledgedOf, holders, isAcknowledged}
 use Rattle.counts.specs.Advances.{advancesOf, backs, highestPassing}
 use Rattle.counts.proofs.advances.does_back.Reads as does-back-reads
 use Rattle.counts.proofs.advances.highest_passing.Reads as highest-passing-reads
 use Rattle.counts.proofs.advances.advances.Reads as advances-reads
-use Rattle.counts.proofs.acknowledged.holders_of.Reads as holders-of-reads
-use Rattle.counts.proofs.acknowledged.is_acknowledged.Reads as is-acknowledged-reads
-use Rattle.counts.proofs.acknowledged.acknowledged.Reads as acknowledged-reads
 
 pub does-back : (s : Server) (a n i : ℕ) → OneResult (λ x. does-back-reads.Learnt tt (s, (a, (n, (i, tt)))) x (s, (a, (n, (i, tt)))))
 does-back s a n i = one-result (backs s a n i)
@@ -21,12 +17,3 @@ highest-passing n s a = one-result (highestPassing (min n mostServers) s a)
 
 pub advances : (c : Cluster) (a : ℕ) → OneResult (λ x. advances-reads.Learnt tt (c, (a, tt)) x (c, (a, tt)))
 advances c a = one-result (advancesOf c a)
-
-pub holders-of : (c : Cluster) (s : Server) (n : ℕ) → OneResult (λ x. holders-of-reads.Learnt tt (c, (s, (n, tt))) x (c, (s, (n, tt))))
-holders-of c s n = one-result (holders c s n)
-
-pub is-acknowledged : (c : Cluster) (s : Server) (k n : ℕ) → OneResult (λ x. is-acknowledged-reads.Learnt tt (c, (s, (k, (n, tt)))) x (c, (s, (k, (n, tt)))))
-is-acknowledged c s k n = one-result (isAcknowledged c s k n)
-
-pub acknowledged : (c : Cluster) (a k n term : ℕ) → OneResult (λ x. acknowledged-reads.Learnt tt (c, (a, (k, (n, (term, tt))))) x (c, (a, (k, (n, (term, tt))))))
-acknowledged c a k n term = one-result (acknowledgedOf c a k n term)

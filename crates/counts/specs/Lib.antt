@@ -1,3 +1,2 @@
--- Kinds 7 and 12: what counts servers, a module each. Assumes nothing.
+-- Kind 7: what counts servers. Assumes nothing.
 pub mod Advances
-pub mod Acknowledged

@@ -1,3 +1,2 @@
-// What counts servers: kinds 7 and 12, a module each.
-pub mod acknowledged;
+// What counts servers: kind 7.
 pub mod advances;

@@ -21,7 +21,6 @@ use Rattle.steps.specs.declared.Step.{Step}
 use Rattle.steps.specs.declared.Step.the-variants.{Elect, Pulls, RollsBack, Writes, Advances, Restarts, MajorityRead, Acknowledged, TakesReport}
 use Rattle.steps.specs.declared.Answer.the-variants as A
 use Rattle.steps.specs.declared.Refusal.the-variants.{NotYet}
-use Rattle.counts.specs.Acknowledged.{isAcknowledged}
 use Rattle.steps.specs.Fields.{frameFor}
 use Rattle.steps.specs.Ranges.{FitsStep}
 use Rattle.rules.specs.Rules.{stepOf}
@@ -60,7 +59,7 @@ abbrev pub steps : List Step
 steps = first ++ (second ++ third)
 
 pub end : Cluster
-unfolding moment mayAsk hasEntry isAcknowledged
+unfolding moment mayAsk hasEntry
 end = runOf (freshCluster 3) steps
 
 -- ---- the records

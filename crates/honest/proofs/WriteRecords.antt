@@ -28,7 +28,6 @@ use Rattle.steps.specs.declared.Answer.the-variants as A
 use Rattle.steps.specs.declared.Outcome.{Outcome}
 use Rattle.singles.specs.Appends.{newEntry, stampedOf}
 use Rattle.singles.specs.Writes.{writeFrom, writeDone}
-use Rattle.counts.specs.Acknowledged.{isAcknowledged}
 use Rattle.reads.specs.MajorityRead.{covered}
 use Rattle.rules.specs.Rules.{delivered, rowOf, stepOf}
 use Rattle.rules.proofs.Appends.{stampFrom, live-more}
@@ -133,14 +132,14 @@ module _ {n : ℕ} {some : 0 < n} {c : Cluster} (N : Now n some c) {es : List En
     reached : w .position ≤ serverAt c q .head .commit
 
   reached-it : Reached
-  unfolding rowOf mayAsk hasEntry isAcknowledged
+  unfolding rowOf mayAsk hasEntry
   reached-it =
       let d = answered-done c (Acknowledged q 0 (w .position) (w .term)) told refl in
       record {
         below = omega (arith, ltb-true q (serverCount c) (d .clear .0), all-counted N);
         from-one = leb-true 1 (w .position) (and-left _ _ (d .clear .1 .1 .0));
-        term-is = eqb-true _ _ (and-right (leb (w .position) (lengthOf (serverAt c q .log))) _ (d .clear .1 .1 .1 .0));
-        reached = leb-true _ _ (d .clear .1 .1 .1 .1 .0);
+        term-is = eqb-true _ _ (and-right (leb (w .position) (lengthOf (serverAt c q .log))) _ (d .clear .1 .1 .1 .1 .0));
+        reached = leb-true _ _ (d .clear .1 .1 .1 .1 .1 .0);
       }
 
   -- so the entry there is the write's, at q and in the log

@@ -1,4 +1,5 @@
-// What only asks one server, and changes none: kinds 10, 11 and 15, a module each.
+// What only asks one server, and changes none: kinds 10, 11, 12 and 15, a module each.
+pub mod acknowledged;
 pub mod local_read;
 pub mod majority_read;
 pub mod newest_read;

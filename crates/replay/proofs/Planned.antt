@@ -3,7 +3,7 @@ use mathlib.Core.Path.{_≡_, refl, ap, sym, _∙_}
 use mathlib.Core.List.{[], _∷_}
 use mathlib.Core.Bool.{Bool, true, false, cond, not, _||_}
 use Prim.Native.Nat.{ℕ, _<_}
-use lib.Dec.{eqb, ltb}
+use lib.Dec.{eqb, ltb, leb}
 use borrow.Author.Tests.{ltb-true}
 use Rattle.cluster.specs.declared.Cluster.{Cluster}
 use Rattle.cluster.specs.declared.Server.{Server as ServerOf}
@@ -21,6 +21,7 @@ use Rattle.singles.specs.StepsDown.{downRules}
 use Rattle.singles.specs.WallClock.{clockRules}
 use Rattle.singles.specs.WritesNothing.{nothingRules}
 use Rattle.singles.specs.Writes.{writeRules}
+use Rattle.reads.specs.Acknowledged.{acknowledgeRules}
 use Rattle.reads.specs.LocalRead.{localRules}
 use Rattle.reads.specs.MajorityRead.{majorityRules}
 use Rattle.reads.specs.NewestRead.{newestRules}
@@ -28,7 +29,7 @@ use Rattle.frames.specs.declared.ReadStep.{ReadStep}
 use Rattle.frames.specs.declared.ReadStep.the-variants as R
 use Rattle.rules.specs.Rules.{delivered, isStart, coreOf, stepOf, putBack}
 use Rattle.rules.specs.One.{oneOf, singleOf, pairOf}
-use Rattle.rules.proofs.Parts.{core-down, core-hears, core-writes, core-clock, core-restarts, core-local, core-majority, core-nothing, core-newest}
+use Rattle.rules.proofs.Parts.{core-down, core-hears, core-writes, core-clock, core-restarts, core-local, core-majority, core-acknowledged, core-nothing, core-newest}
 use Rattle.replay.specs.declared.Plan.{Plan}
 use Rattle.replay.specs.declared.Plan.the-variants.{Refuse, Server, Record}
 use Rattle.replay.specs.Texts.{respond}
@@ -50,23 +51,23 @@ put-back-is : (c : Cluster) (a : ℕ) (o : Stepped) → o .sends ≡ Nothing →
 unfolding delivered
 put-back-is c a o e i = record { cluster = sym (ap (delivered (withServer c a (o .server))) e) i; answer = o .answer }
 
-alone-does : (c : Cluster) (a : ℕ) (s : Step) → oneOf (serverAt c a) (serverAt c a) s .sends ≡ Nothing → carriedOut c (planAlone (serverCount c) a s) ≡ singleOf c a s
+alone-does : (c : Cluster) (a : ℕ) (s : Step) → oneOf (serverCount c) (serverAt c a) (serverAt c a) s .sends ≡ Nothing → carriedOut c (planAlone (serverCount c) a s) ≡ singleOf c a s
 unfolding carriedOut planAlone singleOf
 alone-does c a s e = go (ltb a (serverCount c))
   where
-    go : (t : Bool) → carriedOut c (cond t (Server a a s) (Refuse OutOfRange)) ≡ cond t (putBack c a (oneOf (serverAt c a) (serverAt c a) s)) (refusingAll c OutOfRange)
-    go true = put-back-is c a (oneOf (serverAt c a) (serverAt c a) s) e
+    go : (t : Bool) → carriedOut c (cond t (Server a a s) (Refuse OutOfRange)) ≡ cond t (putBack c a (oneOf (serverCount c) (serverAt c a) (serverAt c a) s)) (refusingAll c OutOfRange)
+    go true = put-back-is c a (oneOf (serverCount c) (serverAt c a) (serverAt c a) s) e
     go false = refl
 
-apart-does : (c : Cluster) (a b : ℕ) (s : Step) → oneOf (serverAt c a) (serverAt c b) s .sends ≡ Nothing → carriedOut c (planApart (serverCount c) a b s) ≡ pairOf c a b s
+apart-does : (c : Cluster) (a b : ℕ) (s : Step) → oneOf (serverCount c) (serverAt c a) (serverAt c b) s .sends ≡ Nothing → carriedOut c (planApart (serverCount c) a b s) ≡ pairOf c a b s
 unfolding carriedOut planApart pairOf
 apart-does c a b s e = go (ltb a (serverCount c)) (ltb b (serverCount c)) (eqb a b)
   where
     go : (t u v : Bool)
         → carriedOut c (cond t (cond u (cond v (Refuse OutOfRange) (Server a b s)) (Refuse OutOfRange)) (Refuse OutOfRange))
-        ≡ cond t (cond u (cond (not v) (putBack c a (oneOf (serverAt c a) (serverAt c b) s)) (refusingAll c OutOfRange)) (refusingAll c OutOfRange)) (refusingAll c OutOfRange)
+        ≡ cond t (cond u (cond (not v) (putBack c a (oneOf (serverCount c) (serverAt c a) (serverAt c b) s)) (refusingAll c OutOfRange)) (refusingAll c OutOfRange)) (refusingAll c OutOfRange)
     go true true true = refl
-    go true true false = put-back-is c a (oneOf (serverAt c a) (serverAt c b) s) e
+    go true true false = put-back-is c a (oneOf (serverCount c) (serverAt c a) (serverAt c b) s) e
     go true false v = refl
     go false u v = refl
 
@@ -85,7 +86,7 @@ place-does c (S.WallClock a) = alone-does c a (S.WallClock a) (decided-sends _ _
 place-does c (S.Restarts a) = alone-does c a (S.Restarts a) refl ∙ core-restarts c a
 place-does c (S.LocalRead a key asked) = alone-does c a (S.LocalRead a key asked) (decided-sends _ _ (localRules (serverAt c a) key asked) refl) ∙ core-local c a key asked
 place-does c (S.MajorityRead a key asked) = alone-does c a (S.MajorityRead a key asked) (decided-sends _ _ (majorityRules (serverAt c a) key asked) refl) ∙ core-majority c a key asked
-place-does c (S.Acknowledged a k n term) = refl
+place-does c (S.Acknowledged a k n term) = alone-does c a (S.Acknowledged a k n term) (decided-sends _ _ (acknowledgeRules (serverCount c) (serverAt c a) k n term) refl) ∙ core-acknowledged c a k n term
 place-does c S.ClocksAgree = refl
 place-does c (S.WritesNothing a) = alone-does c a (S.WritesNothing a) (decided-sends _ _ (nothingRules (serverAt c a)) refl) ∙ core-nothing c a
 place-does c (S.NewestRead a key n term) = alone-does c a (S.NewestRead a key n term) (decided-sends _ _ (newestRules (serverAt c a) key n term) refl) ∙ core-newest c a key n term
@@ -144,7 +145,7 @@ place-names size (S.WallClock a) = alone-names size a (S.WallClock a)
 place-names size (S.Restarts a) = alone-names size a (S.Restarts a)
 place-names size (S.LocalRead a key asked) = alone-names size a (S.LocalRead a key asked)
 place-names size (S.MajorityRead a key asked) = alone-names size a (S.MajorityRead a key asked)
-place-names size (S.Acknowledged a k n term) = tt
+place-names size (S.Acknowledged a k n term) = alone-names size a (S.Acknowledged a k n term)
 place-names size S.ClocksAgree = tt
 place-names size (S.WritesNothing a) = alone-names size a (S.WritesNothing a)
 place-names size (S.NewestRead a key n term) = alone-names size a (S.NewestRead a key n term)

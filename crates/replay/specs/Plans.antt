@@ -4,7 +4,7 @@ use Prim.Native.Nat.{ℕ}
 use mathlib.Core.Bool.{Bool, cond, _||_}
 use lib.Dec.{eqb, ltb}
 use Rattle.cluster.specs.declared.Cluster.{Cluster}
-use Rattle.cluster.specs.Servers.{serverAt, withServer}
+use Rattle.cluster.specs.Servers.{serverCount, serverAt, withServer}
 use Rattle.steps.specs.declared.Outcome.{Outcome}
 use Rattle.steps.specs.declared.Refusal.the-variants.{NotAFrame, IllFormed, OutOfRange}
 use Rattle.steps.specs.declared.Step.{Step}
@@ -39,7 +39,7 @@ placeOf size (S.WallClock a) = planAlone size a (S.WallClock a)
 placeOf size (S.Restarts a) = planAlone size a (S.Restarts a)
 placeOf size (S.LocalRead a key asked) = planAlone size a (S.LocalRead a key asked)
 placeOf size (S.MajorityRead a key asked) = planAlone size a (S.MajorityRead a key asked)
-placeOf size (S.Acknowledged a k n term) = Record (S.Acknowledged a k n term)
+placeOf size (S.Acknowledged a k n term) = planAlone size a (S.Acknowledged a k n term)
 placeOf size S.ClocksAgree = Record S.ClocksAgree
 placeOf size (S.WritesNothing a) = planAlone size a (S.WritesNothing a)
 placeOf size (S.NewestRead a key n term) = planAlone size a (S.NewestRead a key n term)
@@ -53,5 +53,5 @@ planOf size formed R.NoFrame = Refuse NotAFrame
 -- what is done
 unfoldable pub carriedOut : Cluster → Plan → Outcome
 carriedOut c (Refuse r) = refusingAll c r
-carriedOut c (Server a b s) = record { cluster = withServer c a (oneOf (serverAt c a) (serverAt c b) s .server); answer = oneOf (serverAt c a) (serverAt c b) s .answer }
+carriedOut c (Server a b s) = record { cluster = withServer c a (oneOf (serverCount c) (serverAt c a) (serverAt c b) s .server); answer = oneOf (serverCount c) (serverAt c a) (serverAt c b) s .answer }
 carriedOut c (Record s) = coreOf c s

@@ -215,7 +215,7 @@ fn place(size: usize, s: Step) -> Plan
         Step::Restarts(a) => plan_alone(size, a as usize, s),
         Step::LocalRead(a, _, _) => plan_alone(size, a as usize, s),
         Step::MajorityRead(a, _, _) => plan_alone(size, a as usize, s),
-        Step::Acknowledged(_, _, _, _) => Plan::Record(s),
+        Step::Acknowledged(a, _, _, _) => plan_alone(size, a as usize, s),
         Step::ClocksAgree => Plan::Record(s),
         Step::WritesNothing(a) => plan_alone(size, a as usize, s),
         Step::NewestRead(a, _, _, _) => plan_alone(size, a as usize, s),
@@ -298,7 +298,7 @@ pub fn feed(s: Session, text: &[u8], out: &mut [u8]) -> Fed
         let answer = match p {
             Plan::Refuse(x) => Answer::Refused(x),
             Plan::Server(a, b, step) => {
-                let o = rules::one(c.servers[a], c.servers[b], step);
+                let o = rules::one(size, c.servers[a], c.servers[b], step);
                 let d = o.server;
                 c.servers[a] = d;
                 o.answer

@@ -11,7 +11,7 @@ use Rattle.steps.specs.declared.Outcome.{Outcome}
 use Rattle.steps.specs.declared.Stepped.{Stepped}
 use Rattle.steps.specs.declared.Answer.the-variants.{Refused}
 use Rattle.steps.specs.declared.Refusal.the-variants.{OutOfRange}
-use Rattle.steps.specs.declared.Step.the-variants.{StepDown, Hears, Pulls, RollsBack, Writes, WallClock, Restarts, LocalRead, MajorityRead, WritesNothing, NewestRead, TakesReport}
+use Rattle.steps.specs.declared.Step.the-variants.{StepDown, Hears, Pulls, RollsBack, Writes, WallClock, Restarts, LocalRead, MajorityRead, Acknowledged, WritesNothing, NewestRead, TakesReport}
 use Rattle.steps.specs.Refusals.{Rules, decided}
 use Rattle.steps.specs.Answers.{refusing, refusingAll}
 use Rattle.steps.proofs.Decided.{decided-map}
@@ -21,6 +21,7 @@ use Rattle.singles.specs.StepsDown.{downRules, downDone}
 use Rattle.singles.specs.WallClock.{clockRules, clockDone}
 use Rattle.singles.specs.Writes.{writeRules, writeDone}
 use Rattle.singles.specs.WritesNothing.{nothingRules, nothingDone}
+use Rattle.reads.specs.Acknowledged.{acknowledgeRules, acknowledgeDone}
 use Rattle.reads.specs.LocalRead.{localRules, localDone}
 use Rattle.reads.specs.MajorityRead.{majorityRules, majorityDone}
 use Rattle.reads.specs.NewestRead.{newestRules, newestDone}
@@ -68,6 +69,10 @@ module _ (c : Cluster) (a : ℕ) where
   pub core-majority : (key : ℕ) (asked : Time) → singleOf c a (MajorityRead a key asked) ≡ coreOf c (MajorityRead a key asked)
   unfolding singleOf oneOf coreOf rowOf
   core-majority key asked = in-place _ _ (placed c a (majorityDone (serverAt c a) key) (majorityRules (serverAt c a) key asked))
+
+  pub core-acknowledged : (k n term : ℕ) → singleOf c a (Acknowledged a k n term) ≡ coreOf c (Acknowledged a k n term)
+  unfolding singleOf oneOf coreOf rowOf
+  core-acknowledged k n term = in-place _ _ (placed c a (acknowledgeDone (serverAt c a) n) (acknowledgeRules (serverCount c) (serverAt c a) k n term))
 
   pub core-newest : (key n term : ℕ) → singleOf c a (NewestRead a key n term) ≡ coreOf c (NewestRead a key n term)
   unfolding singleOf oneOf coreOf rowOf

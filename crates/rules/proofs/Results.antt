@@ -21,8 +21,8 @@ use Rattle.rules.proofs.step.Reads as step-reads
 pub untouched : (s : Server) → OneResult (λ x. untouched-reads.Learnt tt (s, tt) x (s, tt))
 untouched s = one-result (untouchedOf s)
 
-pub one : (s t : Server) (kind : Step) → OneResult (λ x. one-reads.Learnt tt (s, (t, (kind, tt))) x (s, (t, (kind, tt))))
-one s t kind = one-result (oneOf s t kind)
+pub one : (size : ℕ) (s t : Server) (kind : Step) → OneResult (λ x. one-reads.Learnt tt (size, (s, (t, (kind, tt)))) x (size, (s, (t, (kind, tt)))))
+one size s t kind = one-result (oneOf size s t kind)
 
 pub deliver : (c : Cluster) (sends : Sends) → OneResult (λ x. deliver-reads.Learnt tt (c, (sends, tt)) x (c, (sends, tt)))
 deliver c sends = one-result (delivered c sends)

@@ -26,6 +26,7 @@ use Rattle.singles.specs.WallClock.{clockRules, clockDone}
 use Rattle.singles.specs.Restarts.{restartsOf}
 use Rattle.singles.specs.Writes.{writeRules, writeDone}
 use Rattle.singles.specs.WritesNothing.{nothingRules, nothingDone}
+use Rattle.reads.specs.Acknowledged.{acknowledgeRules, acknowledgeDone}
 use Rattle.reads.specs.LocalRead.{localRules, localDone}
 use Rattle.reads.specs.MajorityRead.{majorityRules, majorityDone}
 use Rattle.reads.specs.NewestRead.{newestRules, newestDone}
@@ -34,7 +35,6 @@ use Rattle.wholes.specs.Starts.{startRules, startDone}
 use Rattle.wholes.specs.ClocksAgree.{agreesOf}
 use Rattle.wholes.specs.Elects.{electRules, electDone}
 use Rattle.counts.specs.Advances.{advanceRules, advanceDone}
-use Rattle.counts.specs.Acknowledged.{acknowledgeRules, acknowledgeDone}
 
 -- a server's number is below the server count
 abbrev pub inRange : Cluster → ℕ → Bool × Refusal
@@ -67,7 +67,7 @@ rowOf c (WallClock a) = (inRange c a ∷ clockRules (serverAt c a .head), putBac
 rowOf c (Restarts a) = (inRange c a ∷ [], putBack c a (restartsOf (serverAt c a)))
 rowOf c (LocalRead a key asked) = (inRange c a ∷ localRules (serverAt c a) key asked, putBack c a (localDone (serverAt c a) key))
 rowOf c (MajorityRead a key asked) = (inRange c a ∷ majorityRules (serverAt c a) key asked, putBack c a (majorityDone (serverAt c a) key))
-rowOf c (Acknowledged a k n term) = (acknowledgeRules c a k n term, acknowledgeDone c a n)
+rowOf c (Acknowledged a k n term) = (inRange c a ∷ acknowledgeRules (serverCount c) (serverAt c a) k n term, putBack c a (acknowledgeDone (serverAt c a) n))
 rowOf c ClocksAgree = ([], agreesOf c)
 rowOf c (WritesNothing a) = (inRange c a ∷ nothingRules (serverAt c a), putBack c a (nothingDone (serverAt c a)))
 rowOf c (NewestRead a key n term) = (inRange c a ∷ newestRules (serverAt c a) key n term, putBack c a (newestDone (serverAt c a) key n))

@@ -4,11 +4,11 @@ ghost use Rattle.rules.specs.Rules.{delivered, putBack, isStart, coreOf,
 ghost use Rattle.rules.specs.One.{untouchedOf, oneOf, singleOf, pairOf};
 use cluster::Cluster;
 use cluster::Server;
-use counts::acknowledged::acknowledged;
 use counts::advances::advances;
 use pairs::hears::hears;
 use pairs::pulls::pulls;
 use pairs::rolls_back::rolls_back;
+use reads::acknowledged::acknowledged;
 use reads::local_read::local_read;
 use reads::majority_read::majority_read;
 use reads::newest_read::newest_read;
@@ -39,9 +39,9 @@ pub fn untouched(s: Server) -> Stepped
     }
 }
 
-// The kinds that change one server: server s, looking at t, takes the step. A step of the whole cluster leaves it as it is.
-pub fn one(s: Server, t: Server, step: Step) -> Stepped
-    ensures { λ r. ⌜ r ≡ oneOf s t step ⌝ }
+// The kinds that change one server: server s of so many, looking at t, takes the step. A step of the whole cluster leaves it as it is.
+pub fn one(size: usize, s: Server, t: Server, step: Step) -> Stepped
+    ensures { λ r. ⌜ r ≡ oneOf size s t step ⌝ }
 {
     match step {
         Step::StepDown(_) => steps_down(s),
@@ -53,13 +53,13 @@ pub fn one(s: Server, t: Server, step: Step) -> Stepped
         Step::Restarts(_) => restarts(s),
         Step::LocalRead(_, key, asked) => local_read(s, key, asked),
         Step::MajorityRead(_, key, asked) => majority_read(s, key, asked),
+        Step::Acknowledged(_, k, n, term) => acknowledged(size, s, k as usize, n as usize, term),
         Step::WritesNothing(_) => writes_nothing(s),
         Step::NewestRead(_, key, n, term) => newest_read(s, key, n as usize, term),
         Step::TakesReport(_) => takes_report(s),
         Step::Start(_) => untouched(s),
         Step::Elect(_, _) => untouched(s),
         Step::Advances(_) => untouched(s),
-        Step::Acknowledged(_, _, _, _) => untouched(s),
         Step::ClocksAgree => untouched(s),
     }
 }
@@ -99,11 +99,12 @@ pub fn put_back(c: Cluster, a: usize, o: Stepped) -> Outcome
 pub fn single(c: Cluster, a: usize, step: Step) -> Outcome
     ensures { λ r. ⌜ r ≡ singleOf c a step ⌝ }
 {
-    if cluster::server_count(c.count) <= a {
+    let size = cluster::server_count(c.count);
+    if size <= a {
         return steps::refuse_all(c, Refusal::OutOfRange);
     }
     let s = c.servers[a];
-    put_back(c, a, one(s, s, step))
+    put_back(c, a, one(size, s, s, step))
 }
 
 // A step of server a that looks at server b.
@@ -122,7 +123,7 @@ pub fn pair(c: Cluster, a: usize, b: usize, step: Step) -> Outcome
     }
     let s = c.servers[a];
     let t = c.servers[b];
-    put_back(c, a, one(s, t, step))
+    put_back(c, a, one(size, s, t, step))
 }
 
 // The step on a record that is not looked at. Here the servers' numbers of a step are widened.
@@ -142,13 +143,7 @@ pub fn core(c: Cluster, step: Step) -> Outcome
         Step::Restarts(a) => single(c, a as usize, step),
         Step::LocalRead(a, _, _) => single(c, a as usize, step),
         Step::MajorityRead(a, _, _) => single(c, a as usize, step),
-        Step::Acknowledged(a, k, n, term) => acknowledged(
-            c,
-            a as usize,
-            k as usize,
-            n as usize,
-            term,
-        ),
+        Step::Acknowledged(a, _, _, _) => single(c, a as usize, step),
         Step::ClocksAgree => clocks_agree(c),
         Step::WritesNothing(a) => single(c, a as usize, step),
         Step::NewestRead(a, _, _, _) => single(c, a as usize, step),

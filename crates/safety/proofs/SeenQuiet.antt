@@ -21,6 +21,7 @@ use Rattle.pairs.specs.Hears.{takesCommit, heardOf, hearsOf}
 use Rattle.singles.specs.StepsDown.{downDone}
 use Rattle.singles.specs.WallClock.{clockDone}
 use Rattle.singles.specs.Restarts.{restartsOf}
+use Rattle.reads.specs.Acknowledged.{acknowledgeDone}
 use Rattle.reads.specs.LocalRead.{localDone}
 use Rattle.reads.specs.MajorityRead.{majorityDone}
 use Rattle.reads.specs.NewestRead.{newestDone}
@@ -103,6 +104,10 @@ module _ {𝓠 : Quorums} (c : Cluster) (f : Fits c) where
   unfolding rowOf
   sees-majority a key asked h = not-shown c f a (h .0) (majorityDone (serverAt c a) key) refl
 
+  pub sees-acknowledged : (a k n term : ℕ) → Sees 𝓠 c (Acknowledged a k n term)
+  unfolding rowOf
+  sees-acknowledged a k n term h = not-shown c f a (h .0) (acknowledgeDone (serverAt c a) n) refl
+
   pub sees-newest : (a key n term : ℕ) → Sees 𝓠 c (NewestRead a key n term)
   unfolding rowOf
   sees-newest a key n term h = not-shown c f a (h .0) (newestDone (serverAt c a) key n) refl
@@ -110,10 +115,6 @@ module _ {𝓠 : Quorums} (c : Cluster) (f : Fits c) where
   pub sees-take : (a : ℕ) → Sees 𝓠 c (TakesReport a)
   unfolding rowOf
   sees-take a h = not-shown c f a (h .0) (takeDone (serverAt c a)) refl
-
-pub sees-acknowledged : {𝓠 : Quorums} (c : Cluster) (a k n term : ℕ) → Sees 𝓠 c (Acknowledged a k n term)
-unfolding rowOf
-sees-acknowledged c a k n term h = unchanged (λ i. refl)
 
 pub sees-agree : {𝓠 : Quorums} (c : Cluster) → Sees 𝓠 c ClocksAgree
 unfolding rowOf

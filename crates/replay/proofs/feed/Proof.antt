@@ -82,10 +82,12 @@ outcome c =
     let at = c .before in
     ⊎-elim (λ w. settled at (Refuse (w .1 .given .0 .0)) _ (w .1 .given .1) (λ i. record { cluster = w .3 i; answer = w .4 i }))
     (λ v. ⊎-elim
-    (λ w. settled at (Server (w .1 .given .0 .0) (w .1 .given .0 .1 .0) (w .1 .given .0 .1 .1 .0)) _ (w .1 .given .1)
+    (λ w.
+    let stepped = rw (at .before .before .server-count .ensures) at (w .5 .ensures) in
+    settled at (Server (w .1 .given .0 .0) (w .1 .given .0 .1 .0) (w .1 .given .0 .1 .1 .0)) _ (w .1 .given .1)
     (λ i. record {
-      cluster = (w .7 ∙ ap (λ (r : Stepped). withServer (before at) (w .1 .given .0 .0) (r .server)) (w .5 .ensures)) i;
-      answer = (w .8 ∙ ap (λ (r : Stepped). r .answer) (w .5 .ensures)) i;
+      cluster = (w .7 ∙ ap (λ (r : Stepped). withServer (before at) (w .1 .given .0 .0) (r .server)) stepped) i;
+      answer = (w .8 ∙ ap (λ (r : Stepped). r .answer) stepped) i;
     }))
     (λ w. settled at (Record (w .1 .given .0 .0)) _ (w .1 .given .1)
     (λ i. record { cluster = (w .5 ∙ ap (λ (r : Outcome). r .cluster) (w .3 .ensures)) i; answer = (w .6 ∙ ap (λ (r : Outcome). r .answer) (w .3 .ensures)) i })) v)

@@ -87,12 +87,6 @@ cast-plan-alone-6 c = search needs
 plan-alone-requires-6 : tie.Need-plan-alone-requires-6
 plan-alone-requires-6 c κs = search needs
 
-enum-told-6 : tie.Need-enum-told-6
-enum-told-6 c = search needs
-
-enum-told-7 : tie.Need-enum-told-7
-enum-told-7 c = search needs
-
 enum-known-s-8 : tie.Need-enum-known-s-8
 enum-known-s-8 c = search needs
 
@@ -101,6 +95,9 @@ cast-plan-alone-7 c = search needs
 
 plan-alone-requires-7 : tie.Need-plan-alone-requires-7
 plan-alone-requires-7 c κs = search needs
+
+enum-told-6 : tie.Need-enum-told-6
+enum-told-6 c = search needs
 
 enum-known-s-9 : tie.Need-enum-known-s-9
 enum-known-s-9 c = search needs
@@ -111,8 +108,17 @@ cast-plan-alone-8 c = search needs
 plan-alone-requires-8 : tie.Need-plan-alone-requires-8
 plan-alone-requires-8 c κs = search needs
 
-enum-told-8 : tie.Need-enum-told-8
-enum-told-8 c = search needs
+enum-known-s-10 : tie.Need-enum-known-s-10
+enum-known-s-10 c = search needs
+
+cast-plan-alone-9 : tie.Need-cast-plan-alone-9
+cast-plan-alone-9 c = search needs
+
+plan-alone-requires-9 : tie.Need-plan-alone-requires-9
+plan-alone-requires-9 c κs = search needs
+
+enum-told-7 : tie.Need-enum-told-7
+enum-told-7 c = search needs
 
 returns : tie.Need-returns
 unfolding placeOf
@@ -164,23 +170,23 @@ returns-12 c = c .plan-alone6 .ensures ∙ sym (ap (placeOf (c .before .before .
 
 returns-13 : tie.Need-returns-13
 unfolding placeOf
-returns-13 c = let e = c .enum-told6 .given .1 in ap Record e ∙ sym (ap (placeOf (c .before .before .args .size)) e)
+returns-13 c = c .plan-alone7 .ensures ∙ sym (ap (placeOf (c .before .before .before .before .args .size)) (c .before .before .s8 .given .1))
 
 returns-14 : tie.Need-returns-14
 unfolding placeOf
-returns-14 c = let e = c .enum-told7 .given .1 in ap Record e ∙ sym (ap (placeOf (c .before .before .args .size)) e)
+returns-14 c = let e = c .enum-told6 .given .1 in ap Record e ∙ sym (ap (placeOf (c .before .before .args .size)) e)
 
 returns-15 : tie.Need-returns-15
 unfolding placeOf
-returns-15 c = c .plan-alone7 .ensures ∙ sym (ap (placeOf (c .before .before .before .before .args .size)) (c .before .before .s8 .given .1))
+returns-15 c = c .plan-alone8 .ensures ∙ sym (ap (placeOf (c .before .before .before .before .args .size)) (c .before .before .s9 .given .1))
 
 returns-16 : tie.Need-returns-16
 unfolding placeOf
-returns-16 c = c .plan-alone8 .ensures ∙ sym (ap (placeOf (c .before .before .before .before .args .size)) (c .before .before .s9 .given .1))
+returns-16 c = c .plan-alone9 .ensures ∙ sym (ap (placeOf (c .before .before .before .before .args .size)) (c .before .before .s10 .given .1))
 
 returns-17 : tie.Need-returns-17
 unfolding placeOf
-returns-17 c = let e = c .enum-told8 .given .1 in ap Record e ∙ sym (ap (placeOf (c .before .before .args .size)) e)
+returns-17 c = let e = c .enum-told7 .given .1 in ap Record e ∙ sym (ap (placeOf (c .before .before .args .size)) e)
 
 pub place-spec : {M : Type 1} → statement M
 place-spec =
@@ -213,15 +219,17 @@ place-spec =
     enum-known-s-7
     cast-plan-alone-6
     plan-alone-requires-6
-    enum-told-6
-    enum-told-7
     enum-known-s-8
     cast-plan-alone-7
     plan-alone-requires-7
+    enum-told-6
     enum-known-s-9
     cast-plan-alone-8
     plan-alone-requires-8
-    enum-told-8
+    enum-known-s-10
+    cast-plan-alone-9
+    plan-alone-requires-9
+    enum-told-7
     returns
     returns-2
     returns-3

@@ -1,5 +1,5 @@
 -- `rules::core` meets its contract. Assumes nothing.
-use Rattle.rules.proofs.Parts.{core-down, core-hears, core-pulls, core-rolls-back, core-writes, core-clock, core-restarts, core-local, core-majority, core-nothing, core-newest, core-takes-report}
+use Rattle.rules.proofs.Parts.{core-down, core-hears, core-pulls, core-rolls-back, core-writes, core-clock, core-restarts, core-local, core-majority, core-acknowledged, core-nothing, core-newest, core-takes-report}
 use Rattle.rules.specs.Rules.{rowOf, coreOf}
 use mathlib.Core.Path.{sym, ap, _∙_}
 use borrow.Author.Needs.{needs}
@@ -126,17 +126,11 @@ single-requires-6 c κs = search needs
 enum-known-step-13 : tie.Need-enum-known-step-13
 enum-known-step-13 c = search needs
 
-cast-acknowledged : tie.Need-cast-acknowledged
-cast-acknowledged c = search needs
+cast-single-7 : tie.Need-cast-single-7
+cast-single-7 c = search needs
 
-cast-acknowledged-2 : tie.Need-cast-acknowledged-2
-cast-acknowledged-2 c = search needs
-
-cast-acknowledged-3 : tie.Need-cast-acknowledged-3
-cast-acknowledged-3 c = search needs
-
-acknowledged-requires : tie.Need-acknowledged-requires
-acknowledged-requires c κs = search needs
+single-requires-7 : tie.Need-single-requires-7
+single-requires-7 c κs = search needs
 
 enum-told : tie.Need-enum-told
 enum-told c = search needs
@@ -147,29 +141,29 @@ clocks-agree-requires c κs = search needs
 enum-known-step-14 : tie.Need-enum-known-step-14
 enum-known-step-14 c = search needs
 
-cast-single-7 : tie.Need-cast-single-7
-cast-single-7 c = search needs
-
-single-requires-7 : tie.Need-single-requires-7
-single-requires-7 c κs = search needs
-
-enum-known-step-15 : tie.Need-enum-known-step-15
-enum-known-step-15 c = search needs
-
 cast-single-8 : tie.Need-cast-single-8
 cast-single-8 c = search needs
 
 single-requires-8 : tie.Need-single-requires-8
 single-requires-8 c κs = search needs
 
-enum-known-step-16 : tie.Need-enum-known-step-16
-enum-known-step-16 c = search needs
+enum-known-step-15 : tie.Need-enum-known-step-15
+enum-known-step-15 c = search needs
 
 cast-single-9 : tie.Need-cast-single-9
 cast-single-9 c = search needs
 
 single-requires-9 : tie.Need-single-requires-9
 single-requires-9 c κs = search needs
+
+enum-known-step-16 : tie.Need-enum-known-step-16
+enum-known-step-16 c = search needs
+
+cast-single-10 : tie.Need-cast-single-10
+cast-single-10 c = search needs
+
+single-requires-10 : tie.Need-single-requires-10
+single-requires-10 c κs = search needs
 
 returns : tie.Need-returns
 unfolding coreOf rowOf
@@ -211,21 +205,20 @@ returns-12 : tie.Need-returns-12
 returns-12 c = let g = c .before .before .step12 .given in c .single6 .ensures ∙ core-majority (c .before .before .before .before .args .c) (g .0 .0) (g .0 .1 .0) (g .0 .1 .1 .0) ∙ sym (ap (coreOf (c .before .before .before .before .args .c)) (g .1))
 
 returns-13 : tie.Need-returns-13
-unfolding coreOf rowOf
-returns-13 c = let e = c .before .before .step13 .given .1 in c .acknowledged .ensures ∙ sym (ap (coreOf (c .before .before .before .before .args .c)) e)
+returns-13 c = let g = c .before .before .step13 .given in c .single7 .ensures ∙ core-acknowledged (c .before .before .before .before .args .c) (g .0 .0) (g .0 .1 .0) (g .0 .1 .1 .0) (g .0 .1 .1 .1 .0) ∙ sym (ap (coreOf (c .before .before .before .before .args .c)) (g .1))
 
 returns-14 : tie.Need-returns-14
 unfolding coreOf rowOf
 returns-14 c = c .clocks-agree .ensures ∙ sym (ap (coreOf (c .before .before .before .args .c)) (c .before .enum-told .given .1))
 
 returns-15 : tie.Need-returns-15
-returns-15 c = let g = c .before .before .step14 .given in c .single7 .ensures ∙ core-nothing (c .before .before .before .before .args .c) (g .0 .0) ∙ sym (ap (coreOf (c .before .before .before .before .args .c)) (g .1))
+returns-15 c = let g = c .before .before .step14 .given in c .single8 .ensures ∙ core-nothing (c .before .before .before .before .args .c) (g .0 .0) ∙ sym (ap (coreOf (c .before .before .before .before .args .c)) (g .1))
 
 returns-16 : tie.Need-returns-16
-returns-16 c = let g = c .before .before .step15 .given in c .single8 .ensures ∙ core-newest (c .before .before .before .before .args .c) (g .0 .0) (g .0 .1 .0) (g .0 .1 .1 .0) (g .0 .1 .1 .1 .0) ∙ sym (ap (coreOf (c .before .before .before .before .args .c)) (g .1))
+returns-16 c = let g = c .before .before .step15 .given in c .single9 .ensures ∙ core-newest (c .before .before .before .before .args .c) (g .0 .0) (g .0 .1 .0) (g .0 .1 .1 .0) (g .0 .1 .1 .1 .0) ∙ sym (ap (coreOf (c .before .before .before .before .args .c)) (g .1))
 
 returns-17 : tie.Need-returns-17
-returns-17 c = let g = c .before .before .step16 .given in c .single9 .ensures ∙ core-takes-report (c .before .before .before .before .args .c) (g .0 .0) ∙ sym (ap (coreOf (c .before .before .before .before .args .c)) (g .1))
+returns-17 c = let g = c .before .before .step16 .given in c .single10 .ensures ∙ core-takes-report (c .before .before .before .before .args .c) (g .0 .0) ∙ sym (ap (coreOf (c .before .before .before .before .args .c)) (g .1))
 
 pub core-spec : {M : Type 1} → statement M
 core-spec =
@@ -271,21 +264,19 @@ core-spec =
     cast-single-6
     single-requires-6
     enum-known-step-13
-    cast-acknowledged
-    cast-acknowledged-2
-    cast-acknowledged-3
-    acknowledged-requires
+    cast-single-7
+    single-requires-7
     enum-told
     clocks-agree-requires
     enum-known-step-14
-    cast-single-7
-    single-requires-7
-    enum-known-step-15
     cast-single-8
     single-requires-8
-    enum-known-step-16
+    enum-known-step-15
     cast-single-9
     single-requires-9
+    enum-known-step-16
+    cast-single-10
+    single-requires-10
     returns
     returns-2
     returns-3

@@ -59,14 +59,26 @@ enum-known-step-5 c = search needs
 majority-read-requires : tie.Need-majority-read-requires
 majority-read-requires c κs = search needs
 
+enum-known-step-6 : tie.Need-enum-known-step-6
+enum-known-step-6 c = search needs
+
+cast-acknowledged : tie.Need-cast-acknowledged
+cast-acknowledged c = search needs
+
+cast-acknowledged-2 : tie.Need-cast-acknowledged-2
+cast-acknowledged-2 c = search needs
+
+acknowledged-requires : tie.Need-acknowledged-requires
+acknowledged-requires c κs = search needs
+
 enum-told-5 : tie.Need-enum-told-5
 enum-told-5 c = search needs
 
 writes-nothing-requires : tie.Need-writes-nothing-requires
 writes-nothing-requires c κs = search needs
 
-enum-known-step-6 : tie.Need-enum-known-step-6
-enum-known-step-6 c = search needs
+enum-known-step-7 : tie.Need-enum-known-step-7
+enum-known-step-7 c = search needs
 
 cast-newest-read : tie.Need-cast-newest-read
 cast-newest-read c = search needs
@@ -104,79 +116,73 @@ enum-told-10 c = search needs
 untouched-requires-4 : tie.Need-untouched-requires-4
 untouched-requires-4 c κs = search needs
 
-enum-told-11 : tie.Need-enum-told-11
-enum-told-11 c = search needs
-
-untouched-requires-5 : tie.Need-untouched-requires-5
-untouched-requires-5 c κs = search needs
-
 returns : tie.Need-returns
 unfolding oneOf
-returns c = let b = c .before .before .before .args in c .steps-down .ensures ∙ sym (ap (oneOf (b .s) (b .t)) (c .before .enum-told .given .1))
+returns c = let b = c .before .before .before .args in c .steps-down .ensures ∙ sym (ap (oneOf (b .size) (b .s) (b .t)) (c .before .enum-told .given .1))
 
 returns-2 : tie.Need-returns-2
 unfolding oneOf
-returns-2 c = let b = c .before .before .before .args in c .hears .ensures ∙ sym (ap (oneOf (b .s) (b .t)) (c .before .enum-told2 .given .1))
+returns-2 c = let b = c .before .before .before .args in c .hears .ensures ∙ sym (ap (oneOf (b .size) (b .s) (b .t)) (c .before .enum-told2 .given .1))
 
 returns-3 : tie.Need-returns-3
 unfolding oneOf
-returns-3 c = let b = c .before .before .before .before .args in c .pulls .ensures ∙ sym (ap (oneOf (b .s) (b .t)) (c .before .before .step .given .1))
+returns-3 c = let b = c .before .before .before .before .args in c .pulls .ensures ∙ sym (ap (oneOf (b .size) (b .s) (b .t)) (c .before .before .step .given .1))
 
 returns-4 : tie.Need-returns-4
 unfolding oneOf
-returns-4 c = let b = c .before .before .before .before .args in c .rolls-back .ensures ∙ sym (ap (oneOf (b .s) (b .t)) (c .before .before .step2 .given .1))
+returns-4 c = let b = c .before .before .before .before .args in c .rolls-back .ensures ∙ sym (ap (oneOf (b .size) (b .s) (b .t)) (c .before .before .step2 .given .1))
 
 returns-5 : tie.Need-returns-5
 unfolding oneOf
-returns-5 c = let b = c .before .before .before .before .args in c .writes .ensures ∙ sym (ap (oneOf (b .s) (b .t)) (c .before .before .step3 .given .1))
+returns-5 c = let b = c .before .before .before .before .args in c .writes .ensures ∙ sym (ap (oneOf (b .size) (b .s) (b .t)) (c .before .before .step3 .given .1))
 
 returns-6 : tie.Need-returns-6
 unfolding oneOf
-returns-6 c = let b = c .before .before .before .args in c .wall-clock .ensures ∙ sym (ap (oneOf (b .s) (b .t)) (c .before .enum-told3 .given .1))
+returns-6 c = let b = c .before .before .before .args in c .wall-clock .ensures ∙ sym (ap (oneOf (b .size) (b .s) (b .t)) (c .before .enum-told3 .given .1))
 
 returns-7 : tie.Need-returns-7
 unfolding oneOf
-returns-7 c = let b = c .before .before .before .args in c .restarts .ensures ∙ sym (ap (oneOf (b .s) (b .t)) (c .before .enum-told4 .given .1))
+returns-7 c = let b = c .before .before .before .args in c .restarts .ensures ∙ sym (ap (oneOf (b .size) (b .s) (b .t)) (c .before .enum-told4 .given .1))
 
 returns-8 : tie.Need-returns-8
 unfolding oneOf
-returns-8 c = let b = c .before .before .before .before .args in c .local-read .ensures ∙ sym (ap (oneOf (b .s) (b .t)) (c .before .before .step4 .given .1))
+returns-8 c = let b = c .before .before .before .before .args in c .local-read .ensures ∙ sym (ap (oneOf (b .size) (b .s) (b .t)) (c .before .before .step4 .given .1))
 
 returns-9 : tie.Need-returns-9
 unfolding oneOf
-returns-9 c = let b = c .before .before .before .before .args in c .majority-read .ensures ∙ sym (ap (oneOf (b .s) (b .t)) (c .before .before .step5 .given .1))
+returns-9 c = let b = c .before .before .before .before .args in c .majority-read .ensures ∙ sym (ap (oneOf (b .size) (b .s) (b .t)) (c .before .before .step5 .given .1))
 
 returns-10 : tie.Need-returns-10
 unfolding oneOf
-returns-10 c = let b = c .before .before .before .args in c .writes-nothing .ensures ∙ sym (ap (oneOf (b .s) (b .t)) (c .before .enum-told5 .given .1))
+returns-10 c = let b = c .before .before .before .before .args in c .acknowledged .ensures ∙ sym (ap (oneOf (b .size) (b .s) (b .t)) (c .before .before .step6 .given .1))
 
 returns-11 : tie.Need-returns-11
 unfolding oneOf
-returns-11 c = let b = c .before .before .before .before .args in c .newest-read .ensures ∙ sym (ap (oneOf (b .s) (b .t)) (c .before .before .step6 .given .1))
+returns-11 c = let b = c .before .before .before .args in c .writes-nothing .ensures ∙ sym (ap (oneOf (b .size) (b .s) (b .t)) (c .before .enum-told5 .given .1))
 
 returns-12 : tie.Need-returns-12
 unfolding oneOf
-returns-12 c = let b = c .before .before .before .args in c .takes-report .ensures ∙ sym (ap (oneOf (b .s) (b .t)) (c .before .enum-told6 .given .1))
+returns-12 c = let b = c .before .before .before .before .args in c .newest-read .ensures ∙ sym (ap (oneOf (b .size) (b .s) (b .t)) (c .before .before .step7 .given .1))
 
 returns-13 : tie.Need-returns-13
 unfolding oneOf
-returns-13 c = let b = c .before .before .before .args in c .untouched .ensures ∙ sym (ap (oneOf (b .s) (b .t)) (c .before .enum-told7 .given .1))
+returns-13 c = let b = c .before .before .before .args in c .takes-report .ensures ∙ sym (ap (oneOf (b .size) (b .s) (b .t)) (c .before .enum-told6 .given .1))
 
 returns-14 : tie.Need-returns-14
 unfolding oneOf
-returns-14 c = let b = c .before .before .before .args in c .untouched2 .ensures ∙ sym (ap (oneOf (b .s) (b .t)) (c .before .enum-told8 .given .1))
+returns-14 c = let b = c .before .before .before .args in c .untouched .ensures ∙ sym (ap (oneOf (b .size) (b .s) (b .t)) (c .before .enum-told7 .given .1))
 
 returns-15 : tie.Need-returns-15
 unfolding oneOf
-returns-15 c = let b = c .before .before .before .args in c .untouched3 .ensures ∙ sym (ap (oneOf (b .s) (b .t)) (c .before .enum-told9 .given .1))
+returns-15 c = let b = c .before .before .before .args in c .untouched2 .ensures ∙ sym (ap (oneOf (b .size) (b .s) (b .t)) (c .before .enum-told8 .given .1))
 
 returns-16 : tie.Need-returns-16
 unfolding oneOf
-returns-16 c = let b = c .before .before .before .args in c .untouched4 .ensures ∙ sym (ap (oneOf (b .s) (b .t)) (c .before .enum-told10 .given .1))
+returns-16 c = let b = c .before .before .before .args in c .untouched3 .ensures ∙ sym (ap (oneOf (b .size) (b .s) (b .t)) (c .before .enum-told9 .given .1))
 
 returns-17 : tie.Need-returns-17
 unfolding oneOf
-returns-17 c = let b = c .before .before .before .args in c .untouched5 .ensures ∙ sym (ap (oneOf (b .s) (b .t)) (c .before .enum-told11 .given .1))
+returns-17 c = let b = c .before .before .before .args in c .untouched4 .ensures ∙ sym (ap (oneOf (b .size) (b .s) (b .t)) (c .before .enum-told10 .given .1))
 
 pub one-spec : {M : Type 1} → statement M
 one-spec =
@@ -200,9 +206,13 @@ one-spec =
     local-read-requires
     enum-known-step-5
     majority-read-requires
+    enum-known-step-6
+    cast-acknowledged
+    cast-acknowledged-2
+    acknowledged-requires
     enum-told-5
     writes-nothing-requires
-    enum-known-step-6
+    enum-known-step-7
     cast-newest-read
     newest-read-requires
     enum-told-6
@@ -215,8 +225,6 @@ one-spec =
     untouched-requires-3
     enum-told-10
     untouched-requires-4
-    enum-told-11
-    untouched-requires-5
     returns
     returns-2
     returns-3

@@ -69,7 +69,7 @@ unfolding pairOf
 returns-4 c =
     let b = c .before .before .before .before .before .before .before .before .args in
     rw (first (c .before .before .before .before .before .before), second (c .before .before .before .before .before), ne-eqb (b .a) (b .b) (c .before .before .before .before .if3 .left))
-    (c .put-back .ensures ∙ ap (putBack (b .t1) (b .a)) (c .before .one .ensures))
+    (c .put-back .ensures ∙ ap (putBack (b .t1) (b .a)) (rw (c .before .before .before .before .before .before .before .server-count .ensures) at (c .before .one .ensures)))
 
 pub pair-spec : {M : Type 1} → statement M
 pair-spec =

@@ -37,7 +37,7 @@ returns-2 : tie.Need-returns-2
 unfolding singleOf
 returns-2 c =
     let b = c .before .before .before .before .before .args in
-    rw (lt-ltb (b .a) (serverCount (b .t1)) (omega (arith, c .before .before .before .before .server-count .ensures))) (c .put-back .ensures ∙ ap (putBack (b .t1) (b .a)) (c .before .one .ensures))
+    rw (lt-ltb (b .a) (serverCount (b .t1)) (omega (arith, c .before .before .before .before .server-count .ensures))) (c .put-back .ensures ∙ ap (putBack (b .t1) (b .a)) (rw (c .before .before .before .before .server-count .ensures) at (c .before .one .ensures)))
 
 pub single-spec : {M : Type 1} → statement M
 single-spec =
