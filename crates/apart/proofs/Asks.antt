@@ -1,4 +1,4 @@
--- What the definitions of kinds 10, 11 and 15 give where a wrong program differs. Assumes nothing.
+-- What the definitions of kinds 10, 11, 12 and 15 give where a wrong program differs. Assumes nothing.
 use mathlib.Core.Path.{_≡_, refl}
 use mathlib.Core.Bool.{Bool, true, false}
 use mathlib.Core.List.{List, [], _∷_}
@@ -10,8 +10,9 @@ use Rattle.log.specs.Entries.{entryAt, hasEntry, latestValue}
 use Rattle.log.specs.Logs.{mayAsk}
 use Rattle.cluster.specs.Servers.{freshServer}
 use Rattle.steps.specs.declared.Answer.{Answer}
-use Rattle.steps.specs.declared.Answer.the-variants.{Value, Refused}
-use Rattle.steps.specs.declared.Refusal.the-variants.{WrongRole, NotYet, NoSuchEntry}
+use Rattle.steps.specs.declared.Answer.the-variants.{Entry as Told, Value, Refused}
+use Rattle.steps.specs.declared.Refusal.the-variants.{OutOfRange, WrongRole, NotYet, NoSuchEntry, Retired}
+use Rattle.reads.specs.Acknowledged.{acknowledgedOf}
 use Rattle.reads.specs.LocalRead.{localReadOf}
 use Rattle.reads.specs.MajorityRead.{majorityReadOf}
 use Rattle.reads.specs.NewestRead.{newestReadOf}
@@ -60,3 +61,36 @@ newest-read-of-the-whole-log = refl
 pub newest-read-8-before-10 : asked 1 true 0 [] ≡ Refused NoSuchEntry
 unfolding hasEntry mayAsk
 newest-read-8-before-10 = refl
+
+-- one of two servers, asked under a count about a position in term 1
+
+pub count-1-is-still-answered : acknowledgedOf 2 (covering (x ∷ [])) 1 1 1 .answer ≡ Refused Retired
+unfolding mayAsk
+count-1-is-still-answered = refl
+
+pub count-0-is-refused : acknowledgedOf 2 (covering (x ∷ [])) 0 1 1 .answer ≡ Told 1 1 (at 1 0)
+unfolding entryAt hasEntry mayAsk
+count-0-is-refused = refl
+
+pub a-count-past-the-servers-is-retired : acknowledgedOf 2 freshServer 3 1 1 .answer ≡ Refused OutOfRange
+a-count-past-the-servers-is-retired = refl
+
+pub a-count-of-all-is-out-of-range : acknowledgedOf 2 freshServer 2 1 1 .answer ≡ Refused Retired
+unfolding mayAsk
+a-count-of-all-is-out-of-range = refl
+
+pub retired-before-range : acknowledgedOf 2 freshServer 1 0 1 .answer ≡ Refused OutOfRange
+unfolding mayAsk
+retired-before-range = refl
+
+pub retired-after-no-such-entry : acknowledgedOf 2 freshServer 1 1 1 .answer ≡ Refused Retired
+unfolding mayAsk
+retired-after-no-such-entry = refl
+
+pub not-yet-before-no-such-entry : acknowledgedOf 2 freshServer 0 1 1 .answer ≡ Refused NoSuchEntry
+unfolding hasEntry mayAsk
+not-yet-before-no-such-entry = refl
+
+pub acknowledged-at-count-0 : acknowledgedOf 2 (holder 1 (x ∷ [])) 0 1 1 .answer ≡ Refused NotYet
+unfolding entryAt hasEntry mayAsk
+acknowledged-at-count-0 = refl

@@ -1,22 +1,19 @@
--- What the definitions of kinds 7 and 12 give where a wrong program differs. Assumes nothing.
+-- What the definitions of kind 7 give where a wrong program differs. Assumes nothing.
 use mathlib.Core.Path.{_≡_, refl}
 use mathlib.Core.Bool.{true, false}
 use mathlib.Core.List.{List, [], _∷_}
 use Rattle.base.specs.Numbers.{count, highest}
 use Rattle.base.specs.Lists.{eachFrom}
-use Rattle.clock.specs.Times.{sameTime}
-use Rattle.log.specs.Entries.{sameEntry, entryAt, equalAt, hasEntry}
-use Rattle.log.specs.Logs.{mayAsk}
+use Rattle.log.specs.Entries.{entryAt}
 use Rattle.log.specs.declared.Entry.{Entry as EntryOf}
 use Rattle.mail.specs.declared.Note.{Note}
 use Rattle.mail.specs.Reports.{zeroNote}
 use Rattle.cluster.specs.declared.Server.{Server}
 use Rattle.cluster.specs.Servers.{withMail, freshServer, startedOf}
-use Rattle.steps.specs.declared.Answer.the-variants.{Reached, Entry, Refused}
-use Rattle.steps.specs.declared.Refusal.the-variants.{WrongRole, NoSuchEntry}
+use Rattle.steps.specs.declared.Answer.the-variants.{Reached, Refused}
+use Rattle.steps.specs.declared.Refusal.the-variants.{WrongRole}
 use Rattle.counts.specs.Advances.{backs, passes, highestPassing, advancesOf}
-use Rattle.counts.specs.Acknowledged.{holders, isAcknowledged, acknowledgedOf}
-use Rattle.apart.proofs.Things.{at, entry, x, y, u, note, noting, server, holder, two, F2}
+use Rattle.apart.proofs.Things.{at, entry, x, u, note, noting, server, two, F2}
 
 -- a primary of term 2 with this log and these first notes
 abbrev noted : List Note → List EntryOf → Server
@@ -54,27 +51,3 @@ advances-one-further = refl
 pub secondary-advances : advancesOf F2 0 .answer ≡ Refused WrongRole
 unfolding eachFrom startedOf
 secondary-advances = refl
-
-pub holders-without-s : holders (two (holder 1 (x ∷ [])) (holder 1 (x ∷ []))) (holder 1 (x ∷ [])) 1 ≡ 2
-unfolding count sameTime sameEntry entryAt equalAt
-holders-without-s = refl
-
-pub holders-by-terms : holders (two (holder 1 (x ∷ [])) (holder 1 (y ∷ []))) (holder 1 (x ∷ [])) 1 ≡ 1
-unfolding count sameTime sameEntry entryAt equalAt
-holders-by-terms = refl
-
-pub acknowledged-at-count-0 : isAcknowledged F2 freshServer 0 1 ≡ false
-unfolding isAcknowledged
-acknowledged-at-count-0 = refl
-
-pub acknowledged-by-more : isAcknowledged (two (holder 1 (x ∷ [])) (holder 1 (x ∷ []))) (holder 1 (x ∷ [])) 2 1 ≡ true
-unfolding count sameTime sameEntry entryAt equalAt isAcknowledged
-acknowledged-by-more = refl
-
-pub not-yet-before-no-such-entry : acknowledgedOf F2 0 1 1 1 .answer ≡ Refused NoSuchEntry
-unfolding eachFrom startedOf hasEntry mayAsk
-not-yet-before-no-such-entry = refl
-
-pub acknowledged-by-fewer-than-all : acknowledgedOf (two (holder 1 (x ∷ [])) (holder 1 (x ∷ []))) 0 2 1 1 .answer ≡ Entry 1 1 (at 1 0)
-unfolding count sameTime sameEntry entryAt equalAt hasEntry mayAsk isAcknowledged
-acknowledged-by-fewer-than-all = refl

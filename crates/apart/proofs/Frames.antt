@@ -71,9 +71,9 @@ pub answer-drops-the-term :
 unfolding charOf highOf lowOf answerFrame
 answer-drops-the-term = refl
 
-pub answer-of-refusal-12 : readAnswer (48 ∷ 99 ∷ replicate 16 48) ≡ NoFrame
+pub answer-of-refusal-13 : readAnswer (48 ∷ 100 ∷ replicate 16 48) ≡ NoFrame
 unfolding every sameTime digitOf byteOf allHex wordOf framed refusalOf tellingBy tellingIn
-answer-of-refusal-12 = refl
+answer-of-refusal-13 = refl
 
 -- 03 0000 0001 0000 0000
 pub refusal-with-a-term : readAnswer (48 ∷ 51 ∷ (replicate 7 48 ++ (49 ∷ replicate 8 48))) ≡ NoFrame

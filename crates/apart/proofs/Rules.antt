@@ -27,11 +27,11 @@ untouched-makes-it-secondary = refl
 pub untouched-refuses : (s : Server) → untouchedOf s .answer ≡ A.Done
 untouched-refuses s = refl
 
-pub one-does-nothing : oneOf (leader []) (leader []) (StepDown 0) .server .head .primary ≡ false
+pub one-does-nothing : oneOf 2 (leader []) (leader []) (StepDown 0) .server .head .primary ≡ false
 unfolding oneOf
 one-does-nothing = refl
 
-pub one-takes-10-for-11 : oneOf (holder 1 (x ∷ [])) (holder 1 (x ∷ [])) (LocalRead 0 5 (at 0 0)) .answer ≡ A.Value 41 (at 1 0)
+pub one-takes-10-for-11 : oneOf 2 (holder 1 (x ∷ [])) (holder 1 (x ∷ [])) (LocalRead 0 5 (at 0 0)) .answer ≡ A.Value 41 (at 1 0)
 unfolding highest isBefore entryAt latestValue oneOf
 one-takes-10-for-11 = refl
 
