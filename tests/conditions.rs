@@ -24,6 +24,7 @@ pub enum Condition {
     PositionAbove32,
     TermZero,
     ClockAhead,
+    CountRetired,
     NotPrimary,
     PrimaryOfOtherTerm,
     NotSecondary,
@@ -45,7 +46,6 @@ pub enum Condition {
     AppliedTimeBefore,
     CommitTimeBefore,
     CommitPointBelow,
-    FewerThanCount,
     CommonBelowCommitPoint,
     NoEntry,
     OtherTerm,
@@ -69,10 +69,11 @@ impl Condition {
             LogEmpty | LastTermNotBelow | ABeginning | NothingPasses | QueueEmpty => 5,
             LogFull => 6,
             TermAtLimit | WallClockAtLimit | TickAtLimit => 7,
-            AppliedTimeBefore | CommitTimeBefore | CommitPointBelow | FewerThanCount => 8,
+            AppliedTimeBefore | CommitTimeBefore | CommitPointBelow => 8,
             CommonBelowCommitPoint => 9,
             NoEntry | OtherTerm => 10,
             ClockAhead => 11,
+            CountRetired => 12,
         }
     }
 }

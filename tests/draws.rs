@@ -124,16 +124,23 @@ impl Run {
         }
     }
 
+    /// Odd positions are common, so that those out of range meet every sort of count.
     fn acknowledged(&mut self, a: u8) -> Step {
         let length = self.at(a).log.length;
         let usual = 1 + self.prng.below(length.max(1)) as u16;
-        let position = self.mostly(usual, &[0, length as u16 + 1, 32, 33, 256 + usual, 65_535]);
+        let odd = [0, length as u16 + 1, 32, 33, 256 + usual, 65_535];
+        let position = if self.prng.one_in(8) { self.prng.pick(&odd) } else { usual };
         let term = self.at(a).log.entry(position.into()).map_or(1, |entry| entry.term);
         let term = self.mostly(term, &[0, 0, term.wrapping_add(1), term ^ 256, 65_535]);
-        let count = self.count();
-        let usual = self.prng.below(count + 1) as u8;
-        let count = self.mostly(usual, &[count as u8 + 1, 8, 255]);
-        Step::Acknowledged { a, count, position, term }
+        Step::Acknowledged { a, count: self.asked_count(), position, term }
+    }
+
+    /// Mostly 0, the only count that is answered; else a retired one, or one past the server count.
+    fn asked_count(&mut self) -> u8 {
+        let count = self.count() as u8;
+        let below = self.prng.below(count.into()) as u8;
+        let odd = [1, 1, below, count, count, count + 1, 255];
+        if self.prng.one_in(3) { self.prng.pick(&odd) } else { 0 }
     }
 
     /// Mostly about an entry of a's own term, since only those are answered: they end its log. An

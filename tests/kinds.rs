@@ -203,15 +203,16 @@ impl Cluster {
         Ok(Numbers::value(a.log.value_of(key, a.commit_point), time))
     }
 
-    /// Refusal 10 comes before 8: only an entry of that term can be waited for.
+    /// Only count 0 is answered, since what so many hold can still be lost. Refusal 10 comes before
+    /// 8: only an entry of that term can be waited for.
     fn acknowledged(&mut self, a: usize, count: usize, position: usize, term: u16) -> Answer {
         refuse_if(a >= self.count, ServerOutside)?;
         refuse_if(count > self.count, CountAbove)?;
         refuse_place(position, term)?;
+        refuse_if(count > 0, CountRetired)?;
         let server = &self.servers[a];
         let entry = server.log.entry_of(position, term)?;
-        refuse_if(count == 0 && server.commit_point < position, CommitPointBelow)?;
-        refuse_if(self.holders(position, entry) < count, FewerThanCount)?;
+        refuse_if(server.commit_point < position, CommitPointBelow)?;
         Ok(Numbers::entry_at(position, entry))
     }
 

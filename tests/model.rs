@@ -1,8 +1,8 @@
 //! One small replica set that can be run: the cluster record, its steps and what comes back; the
 //! seventeen kinds are in `kinds.rs`, what refuses them is in `conditions.rs`, and what servers
-//! report to each other is in `reports.rs`. Written from document 01, requests [1], [3] and [5] of
-//! document 02 and the rulings alone; `plain.rs` runs it over lines and `sessions.rs` steers by it.
-//! Record-level tests are in `model_tests.rs`.
+//! report to each other is in `reports.rs`. Written from document 01, requests [1], [3], [5] and [7]
+//! of document 02 and the rulings alone; `plain.rs` runs it over lines and `sessions.rs` steers by
+//! it. Record-level tests are in `model_tests.rs`.
 
 pub use self::conditions::{CONDITIONS, Condition};
 
@@ -336,12 +336,6 @@ impl Cluster {
         let both = self.servers.get_disjoint_mut([a, b]);
         let [a, b] = both.map_err(|_| SameServer)?;
         Ok((a, b))
-    }
-
-    /// How many counted servers hold an entry equal to this at this position.
-    fn holders(&self, position: usize, entry: &Entry) -> usize {
-        let holds = |server: &&Server| server.log.entry(position) == Some(entry);
-        self.counted().iter().filter(holds).count()
     }
 
     /// Whether a position above a's commit point and inside its log passes at a, which counts

@@ -239,17 +239,31 @@ fn an_equal_entry_above_the_first_difference_is_not_common() {
     assert_eq!(refused(&[committed, winner], rolls_back), CommonBelowCommitPoint);
 }
 
+/// Every server holds the same two entries, of which the first is covered.
 #[test]
-fn only_equal_entries_are_acknowledged() {
-    let asked = Step::Acknowledged { a: 0, count: 2, position: 1, term: 1 };
-    let holder = holding(&[1]);
-    assert_eq!(
-        take(&mut cluster(&[holder, holder]), asked),
-        Ok(Numbers::entry_at(1, &entry(1, 1)))
-    );
-    for other in others(entry(1, 1)) {
-        assert_eq!(refused(&[holder, with(&holder, 1, other)], asked), FewerThanCount);
+fn only_count_0_is_acknowledged() {
+    let holder = Server { commit_point: 1, ..holding(&[1, 1]) };
+    let asked = |count: u8, (position, term)| Step::Acknowledged { a: 0, count, position, term };
+    let places = [(1, 1), (2, 1), (3, 1), (1, 2), (0, 1), (33, 1), (65_535, 1), (1, 0)];
+    for servers in [2, 3, 7] {
+        let mut record = cluster(&[holder; SERVERS][..usize::from(servers)]);
+        for count in 0..=255 {
+            let answers = places.map(|place| take(&mut record, asked(count, place)));
+            let refusals = match count {
+                0 => [0, 8, 10, 10, 3, 3, 3, 3],
+                _ if count <= servers => [12, 12, 12, 12, 3, 3, 3, 3],
+                _ => [3; 8],
+            };
+            let given = answers.map(|answer| answer.map_or_else(Condition::number, |_| 0));
+            assert_eq!(given, refusals, "count {count} of {servers}");
+        }
     }
+    let acknowledged = take(&mut cluster(&[holder; 2]), asked(0, places[0]));
+    assert_eq!(acknowledged, Ok(Numbers::entry_at(1, &entry(1, 1))));
+    let outside = Step::Acknowledged { a: 2, count: 1, position: 1, term: 1 };
+    assert_eq!(refused(&[holder; 2], outside), ServerOutside);
+    let mut broken = cluster(&[holder, Server { wall_clock: 0, ..holder }]);
+    assert_eq!(step(&mut broken, &asked(1, places[0])), Err(NotWellFormed));
 }
 
 #[test]

@@ -7,6 +7,8 @@ use crate::model::{Answer, Cluster, Condition, Condition::*, Entry, Role::*, SER
 use crate::model::{Server, Step};
 use std::cmp::Ordering::{self, *};
 
+#[path = "retired.rs"]
+mod retired;
 #[path = "stamps.rs"]
 mod stamps;
 
@@ -30,10 +32,10 @@ const DONE: Result<(), Condition> = Ok(());
 const NONE_PASSES: Result<(), Condition> = Err(NothingPasses);
 
 /// How many sights there are.
-pub const COUNT: usize = SIGHTS.len() + stamps::SIGHTS.len();
+pub const COUNT: usize = SIGHTS.len() + retired::SIGHTS.len() + stamps::SIGHTS.len();
 
 pub fn sights() -> impl Iterator<Item = &'static Sight> {
-    SIGHTS.iter().chain(stamps::SIGHTS)
+    SIGHTS.iter().chain(retired::SIGHTS).chain(stamps::SIGHTS)
 }
 
 /// Those of reports, and of reads and commit points that go by them.
