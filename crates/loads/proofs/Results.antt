@@ -5,21 +5,29 @@ use mathlib.Core.List.{List}
 use Prim.Native.Nat.{ℕ}
 use Rattle.base.proofs.Results.{OneResult, one-result}
 use Rattle.cluster.specs.declared.Cluster.{Cluster}
-use Rattle.loads.specs.Decoded.{decoded}
-use Rattle.loads.specs.Loads.{sameText, loadOf, firstBad}
+use Rattle.loads.specs.Decoded.{headIn, entryIn, reportIn, decoded}
+use Rattle.loads.specs.Loads.{sameText, loadOf}
 use Rattle.loads.proofs.decode.Reads as decode-reads
-use Rattle.loads.proofs.first_bad.Reads as first-bad-reads
+use Rattle.loads.proofs.head_in.Reads as head-in-reads
+use Rattle.loads.proofs.entry_in.Reads as entry-in-reads
+use Rattle.loads.proofs.report_in.Reads as report-in-reads
 use Rattle.loads.proofs.same_text.Reads as same-text-reads
 use Rattle.loads.proofs.load.Reads as load-reads
+
+pub head-in : (b : List ℕ) → OneResult (λ x. head-in-reads.Learnt tt (b, tt) x (b, tt))
+head-in b = one-result (headIn b)
+
+pub entry-in : (b : List ℕ) → OneResult (λ x. entry-in-reads.Learnt tt (b, tt) x (b, tt))
+entry-in b = one-result (entryIn b)
+
+pub report-in : (b : List ℕ) → OneResult (λ x. report-in-reads.Learnt tt (b, tt) x (b, tt))
+report-in b = one-result (reportIn b)
 
 pub decode : (κs : Lfts 1) (text : RefT (List ℕ)) → OneResult (λ x. decode-reads.Learnt κs (text, tt) x (text, tt))
 decode κs text = one-result (decoded (now text))
 
 pub same-text : (κs : Lfts 2) (a b : RefT (List ℕ)) → OneResult (λ x. same-text-reads.Learnt κs (a, (b, tt)) x (a, (b, tt)))
 same-text κs a b = one-result (sameText (now a) (now b))
-
-pub first-bad : (c : Cluster) → OneResult (λ x. first-bad-reads.Learnt tt (c, tt) x (c, tt))
-first-bad c = one-result (firstBad c)
 
 pub load : (κs : Lfts 1) (c : Cluster) (text : RefT (List ℕ)) → OneResult (λ x. load-reads.Learnt κs (c, (text, tt)) x (c, (text, tt)))
 load κs c text = one-result (loadOf c (now text))

@@ -1,14 +1,13 @@
 -- What loading a text gives: the record that it decodes to, where the text has the shape and is that record's saved form, or a refusal.
 -- Assumes nothing.
-use mathlib.Core.Bool.{Bool, cond, _&&_}
+use mathlib.Core.Bool.{Bool, _&&_}
 use mathlib.Core.List.{List, [], _∷_}
-use Prim.Native.Nat.{ℕ, zero, suc}
+use Prim.Native.Nat.{ℕ}
 use lib.Dec.{eqb}
 use lib.ListN.{length, getD}
 use Rattle.base.specs.Numbers.{every}
 use Rattle.cluster.specs.declared.Cluster.{Cluster}
-use Rattle.cluster.specs.Servers.{mostServers, serverAt}
-use Rattle.cluster.specs.WellFormed.{serverOk, wellFormed}
+use Rattle.cluster.specs.WellFormed.{wellFormed}
 use Rattle.steps.specs.declared.Outcome.{Outcome}
 use Rattle.steps.specs.declared.Answer.the-variants.{Done}
 use Rattle.steps.specs.declared.Refusal.the-variants.{NotAFrame, IllFormed}
@@ -33,14 +32,3 @@ loadRules text =
 
 unfoldable pub loadOf : Cluster → List ℕ → Outcome
 loadOf c text = decided (refusingAll c) (loaded (decoded text)) (loadRules text)
-
--- ---- what is wrong with a record
-
--- the first number from i on that fails, among so many; the next one where none does
-unfoldable pub firstFailing : (ℕ → Bool) → ℕ → ℕ → ℕ
-firstFailing p i zero = i
-firstFailing p i (suc n) = cond (p i) (firstFailing p (suc i) n) i
-
--- the first server that isn't as its place asks, 7 where each is
-unfoldable pub firstBad : Cluster → ℕ
-firstBad c = firstFailing (λ i. serverOk (c .count) i (serverAt c i)) 0 mostServers

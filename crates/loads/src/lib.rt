@@ -8,7 +8,7 @@ ghost use Rattle.cluster.specs.WellFormed.{wellFormed};
 ghost use Rattle.saved.specs.Saved.{saveOf};
 ghost use Rattle.saved.specs.Written.{mostBytes};
 ghost use Rattle.loads.specs.Decoded.{headIn, serverIn, entryIn, reportIn, toldBy, counting, beginning, telling, withFrame, roomy, freshDraft, decoded};
-ghost use Rattle.loads.specs.Loads.{sameText, loadOf, firstBad};
+ghost use Rattle.loads.specs.Loads.{sameText, loadOf};
 use clock::Time;
 use cluster::Cluster;
 use cluster::Head;
@@ -23,21 +23,21 @@ use steps::Refusal;
 const LINE_FEED: u8 = 10;
 
 // The bytes of a frame in the room of the longest.
-const BYTES: usize = saved::SERVER_BYTES;
+pub const BYTES: usize = saved::SERVER_BYTES;
 
 // The sorts' numbers.
-const FIRST: u8 = 0;
+pub const FIRST: u8 = 0;
 
-const SERVER: u8 = 1;
+pub const SERVER: u8 = 1;
 
-const ENTRY: u8 = 2;
+pub const ENTRY: u8 = 2;
 
-const NOTE: u8 = 3;
+pub const NOTE: u8 = 3;
 
 const REPORT: u8 = 4;
 
-// The role of a primary.
-const PRIMARY: u8 = 1;
+// The role of a primary, and the greatest.
+pub const PRIMARY: u8 = 1;
 
 // A record that is being decoded, and how many of its servers were begun.
 struct Draft {
@@ -53,7 +53,8 @@ fn word_at(b: [u8; BYTES], i: usize) -> u16
     words::word(b[i], b[i + 1])
 }
 
-fn head_in(b: [u8; BYTES]) -> Head
+// What a server's frame says of the server itself.
+pub fn head_in(b: [u8; BYTES]) -> Head
     ensures { λ r. ⌜ r ≡ headIn b ⌝ }
 {
     let p = word_at(b, 13);
@@ -78,7 +79,8 @@ fn server_in(b: [u8; BYTES]) -> Server
     }
 }
 
-fn entry_in(b: [u8; BYTES]) -> Entry
+// What an entry's frame says.
+pub fn entry_in(b: [u8; BYTES]) -> Entry
     ensures { λ r. ⌜ r ≡ entryIn b ⌝ }
 {
     let p = word_at(b, 6);
@@ -92,7 +94,7 @@ fn entry_in(b: [u8; BYTES]) -> Entry
 }
 
 // What a note's or a report's frame says.
-fn report_in(b: [u8; BYTES]) -> Report
+pub fn report_in(b: [u8; BYTES]) -> Report
     ensures { λ r. ⌜ r ≡ reportIn b ⌝ }
 {
     Report {
@@ -237,22 +239,6 @@ pub fn same_text(a: &[u8], b: &[u8]) -> bool
         i += 1;
     }
     true
-}
-
-// The first server that isn't as its place asks, 7 where each is.
-pub fn first_bad(c: Cluster) -> usize
-    ensures { λ r. ⌜ r ≡ firstBad c ⌝ }
-{
-    let count = c.count;
-    let mut i = 0;
-    while i < cluster::MOST_SERVERS {
-        let s = c.servers[i];
-        if !cluster::server_ok(s, count, i) {
-            return i;
-        }
-        i += 1;
-    }
-    i
 }
 
 // Whether a record is well formed and the text is its saved form.

@@ -1,6 +1,6 @@
 -- The program's loop, a law for each way that a turn can go. Assumes nothing.
 use mathlib.Core.Path.{_≡_, refl, sym, ap, _∙_, subst}
-use mathlib.Core.Bool.{Bool, true, false, cond}
+use mathlib.Core.Bool.{Bool, true, false, cond, _&&_}
 use mathlib.Core.List.{List, [], _∷_, _++_}
 use Prim.Native.Nat.{ℕ, _≤_, _<_, _*_, _+_, _-_, min}
 use native.Mathlib.Numerals.{unary-clauses}
@@ -29,13 +29,17 @@ use Rattle.shell.specs.declared.End.the-variants.{More, Input, CannotRea
 use Rattle.shell.specs.declared.Drained.{Drained}
 use Rattle.shell.specs.declared.saves.Led.{Led}
 use Rattle.shell.proofs.End.{the-type}
-use Rattle.shell.specs.Loop.{endOf, given, mostTurns, Poured, Turned, Drains, Answered}
+use Rattle.shell.specs.Loop.{endOf, closedBy, finishedBy, atEnd, given, mostTurns, Poured, Turned, Drains, Finishes, Answered}
 
-pub poured : (s : Session) (piece out out′ : List ℕ) (f : Fed) (wrote : Bool) → answerLine * length piece ≤ length out
-    → f ≡ fedOf s piece (length out) → out′ ≡ fedOut s piece out
-    → Poured s piece (record { session = f .session; end = cond wrote More CannotWrite }) × (out′ ≡ placed out 0 (says s piece))
-poured s piece out out′ f wrote h e o = (
-  record { session = fed-all s piece (length out) f h e .session; wrote = wrote; end = refl },
+pub poured : (s : Session) (piece out out′ : List ℕ) (f : Fed) (wrote : Bool) (r : Drained) → answerLine * length piece ≤ length out
+    → f ≡ fedOf s piece (length out) → out′ ≡ fedOut s piece out → r ≡ closedBy (f .session) wrote
+    → Poured s piece r × (out′ ≡ placed out 0 (says s piece))
+poured s piece out out′ f wrote r h e o p = (
+  record {
+    session = ap (λ (d : Drained). d .session) p ∙ fed-all s piece (length out) f h e .session;
+    wrote = wrote;
+    end = ap (λ (d : Drained). d .end) p;
+  },
   o ∙ fed-all-out s piece out h,
 )
 
@@ -141,10 +145,37 @@ finished-record s room f h e = ap (λ (x : Finished). x .session .cluster) e ∙
     go true k = simp (k, le-ltb room answerLine h)
     go false k = simp (k, le-ltb room answerLine h)
 
-pub answered-all : (c : Cluster) (s : Session) (d : Drained) (r : Led) → s ≡ begun c → Drains s d → r .cluster ≡ ended (d .session) → Answered c r
-answered-all c s d r b g e =
-    let h = subst (λ (x : Session). Drains x d) b g in
-    record { pieces = h .pieces; record-left = λ _. e ∙ drained-record c d h }
+pub finishes : (s : Session) (room : ℕ) (f : Finished) (wrote : Bool) (r : Led) → answerLine ≤ room → f ≡ finishOf s room
+    → r ≡ finishedBy (f .session .cluster) wrote → Finishes s r
+finishes s room f wrote r h e p = record { wrote = wrote; result = p ∙ ap (λ (c : Cluster). finishedBy c wrote) (finished-record s room f h e) }
 
-pub answered-not : (c : Cluster) (r : Led) → r .well ≡ false → Answered c r
-answered-not c r e = record { pieces = []; record-left = λ h. not-both _ h e }
+pub answered-all : (c : Cluster) (s : Session) (d : Drained) (r : Led) → s ≡ begun c → Drains s d → d .end ≡ Input → Finishes (d .session) r → Answered c r
+answered-all c s d r b g i e =
+    let h = subst (λ (x : Session). Drains x d) b g in
+    record {
+      turns = d;
+      drains = h;
+      wrote = e .wrote;
+      well = rw i (ap (λ (l : Led). l .well) (e .result));
+      record-left = λ _. ap (λ (l : Led). l .cluster) (e .result) ∙ drained-record c d h;
+    }
+
+-- the places of the ends other than that of the input
+abbrev others : List ℕ
+others = 0 ∷ 2 ∷ 3 ∷ []
+
+not-at-end : (e : End) → OneOf others (tagOf the-type e) → atEnd e ≡ false
+not-at-end More h = refl
+not-at-end Input h = absurd (miss others 1 tt h)
+not-at-end CannotRead h = refl
+not-at-end CannotWrite h = refl
+
+pub answered-not : (c : Cluster) (s : Session) (d : Drained) (r : Led) → s ≡ begun c → Drains s d → OneOf others (tagOf the-type (d .end)) → r .well ≡ false → Answered c r
+answered-not c s d r b g o e =
+    record {
+      turns = d;
+      drains = subst (λ (x : Session). Drains x d) b g;
+      wrote = false;
+      well = e ∙ ap (λ (x : Bool). x && false) (sym (not-at-end (d .end) o));
+      record-left = λ h. not-both _ h e;
+    }

@@ -2,7 +2,7 @@
 -- `pour` and `turn` do follows, and `any-pieces` of `replay` says what pieces come to. Assumes nothing.
 use mathlib.Core.Path.{_≡_}
 use mathlib.Core.List.{List}
-use mathlib.Core.Bool.{Bool, true, cond}
+use mathlib.Core.Bool.{Bool, true, false, cond, _&&_}
 use Prim.Native.Nat.{ℕ}
 use lib.Dec.{eqb}
 use lib.ListN.{length, take}
@@ -11,7 +11,7 @@ use Rattle.io.specs.Counts.{clamped}
 use Rattle.cluster.specs.declared.Cluster.{Cluster}
 use Rattle.replay.specs.declared.Session.{Session}
 use Rattle.replay.specs.Texts.{leaves}
-use Rattle.replay.specs.Pieces.{together, runs, runsAll}
+use Rattle.replay.specs.Pieces.{begun, together, runs, runsAll, ended}
 use Rattle.shell.specs.declared.End.{End}
 use Rattle.shell.specs.declared.End.the-variants.{More, Input, CannotRead, CannotWrite}
 use Rattle.shell.specs.declared.Drained.{Drained}
@@ -29,6 +29,21 @@ mostTurns = 18446744073709551615
 unfoldable pub endOf : ℤ → Bool → End
 endOf (pos n) wrote = cond (eqb n 0) Input (cond wrote More CannotWrite)
 endOf (negsuc n) wrote = CannotRead
+
+-- a piece is over, by whether its answers were written
+abbrev pub closedBy : Session → Bool → Drained
+closedBy s wrote = record { session = s; end = cond wrote More CannotWrite }
+
+-- the last record: all went well where the last answer was written
+abbrev pub finishedBy : Cluster → Bool → Led
+finishedBy c wrote = record { cluster = c; well = wrote }
+
+-- the turns came to the end of the input
+abbrev pub atEnd : End → Bool
+atEnd More = false
+atEnd Input = true
+atEnd CannotRead = false
+atEnd CannotWrite = false
 
 -- the bytes that a read gave: so many of the buffer's first as it answered
 abbrev pub given : ℤ → List ℕ → List ℕ
@@ -56,7 +71,16 @@ pub record Drains (s : Session) (r : Drained) : Type 0 where
   pub end : r .end ≡ endOf last wrote
   pub patient : r .end ≡ More → length pieces ≡ mostTurns
 
--- a whole input: where all went well, the record is the one that the pieces, as one text, leave
+-- the end of the input: the rest is answered, and the answer was written or can't be
+pub record Finishes (s : Session) (r : Led) : Type 0 where
+  pub wrote : Bool
+  pub result : r ≡ finishedBy (ended s) wrote
+
+-- a whole input: all went well exactly where its turns came to its end and the last answer was written, and then the record is the one that
+-- the pieces, as one text, leave
 pub record Answered (c : Cluster) (r : Led) : Type 0 where
-  pub pieces : List (List ℕ)
-  pub record-left : r .well ≡ true → r .cluster ≡ leaves c (together pieces)
+  pub turns : Drained
+  pub drains : Drains (begun c) turns
+  pub wrote : Bool
+  pub well : r .well ≡ (atEnd (turns .end) && wrote)
+  pub record-left : r .well ≡ true → r .cluster ≡ leaves c (together (drains .pieces))

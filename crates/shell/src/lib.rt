@@ -1,14 +1,16 @@
 // Whole programs, thin over the proved libraries: step lines from standard input to its end, an answer line for each, and the record loaded
 // before and saved after. A program crate of one line calls `run`, `save` or `carry`.
+mod faults;
 mod saves;
 mod say;
+mod tell;
 
 ghost use mathlib.Core.Path.{_≡_};
 ghost use mathlib.Core.Bool.{false};
 ghost use Prim.Native.Nat.{_≤_, _*_};
 ghost use lib.ListN.{length};
-ghost use Rattle.replay.specs.Pieces.{answerLine, runs, says, placed, ended};
-ghost use Rattle.shell.specs.Loop.{mostPiece, Poured, Turned, Drains, Answered};
+ghost use Rattle.replay.specs.Pieces.{answerLine, says, placed};
+ghost use Rattle.shell.specs.Loop.{mostPiece, closedBy, finishedBy, Poured, Turned, Drains, Finishes, Answered};
 use cluster::Cluster;
 use libc::STDIN_FILENO;
 use libc::STDOUT_FILENO;
@@ -41,6 +43,22 @@ fn write_first(fd: i32, out: &[u8], n: usize) -> bool {
     io::write_all(fd, &out[..n])
 }
 
+// A piece is over, by whether its answers were written.
+fn closed(s: Session, wrote: bool) -> Drained
+    ensures { λ r. ⌜ r ≡ closedBy s wrote ⌝ }
+{
+    if wrote {
+        return Drained {
+            session: s,
+            end: End::More,
+        };
+    }
+    Drained {
+        session: s,
+        end: End::CannotWrite,
+    }
+}
+
 // All of one piece, in one go: there is room for every answer.
 fn pour(s: Session, piece: &[u8], out: &mut [u8]) -> Drained
     requires { ⌜ answerLine * length (now piece) ≤ length (now out) ⌝ }
@@ -49,17 +67,7 @@ fn pour(s: Session, piece: &[u8], out: &mut [u8]) -> Drained
 {
     let f = replay::feed(s, piece, out);
     let d = f.session;
-    if write_first(STDOUT_FILENO, out, f.wrote) {
-        Drained {
-            session: d,
-            end: End::More,
-        }
-    } else {
-        Drained {
-            session: d,
-            end: End::CannotWrite,
-        }
-    }
+    closed(d, write_first(STDOUT_FILENO, out, f.wrote))
 }
 
 // One turn with what a read answered: a short piece is a piece like any other, and only none at all is the end of the input.
@@ -111,25 +119,28 @@ fn drain(s: Session, out: &mut [u8]) -> Drained
     }
 }
 
+// The last record: all went well where the last answer was written, and otherwise that is said.
+fn finished(c: Cluster, wrote: bool) -> Led
+    ensures { λ r. ⌜ r ≡ finishedBy c wrote ⌝ }
+{
+    if !wrote {
+        say::cannot_write();
+    }
+    Led {
+        cluster: c,
+        well: wrote,
+    }
+}
+
 // The end of the input: the rest is answered.
 fn ended(s: Session, out: &mut [u8]) -> Led
     requires { ⌜ answerLine ≤ length (now out) ⌝ }
-    ensures { λ r. ⌜ r .cluster ≡ ended s ⌝ }
+    ensures { λ r. ⌜ Finishes s r ⌝ }
 {
     let f = replay::finish(s, out);
     let d = f.session;
     let c = d.cluster;
-    if write_first(STDOUT_FILENO, out, f.wrote) {
-        return Led {
-            cluster: c,
-            well: true,
-        };
-    }
-    say::cannot_write();
-    Led {
-        cluster: c,
-        well: false,
-    }
+    finished(c, write_first(STDOUT_FILENO, out, f.wrote))
 }
 
 // Says why the input wasn't answered to its end.

@@ -3,7 +3,9 @@ ghost use mathlib.Core.Path.{_≡_};
 ghost use Rattle.shell.specs.Saving.{turnWalked, WalksOn, notLed, ledOf, Loads};
 use crate::End;
 use crate::PIECE;
+use crate::faults;
 use crate::say;
+use crate::tell;
 use cluster::Cluster;
 use saved::Saved;
 use shapes::Shape;
@@ -85,12 +87,7 @@ fn explain(text: &[u8], shape: Shape) {
         say::misshapen(shape);
         return;
     }
-    if saved::LONGEST < text.len() {
-        say::too_long();
-        return;
-    }
-    let d = loads::decode(text);
-    say::ill_formed(d.count, loads::first_bad(d));
+    tell::ill_formed(faults::first_fault(text));
 }
 
 fn not_led() -> Led

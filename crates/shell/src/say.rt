@@ -1,11 +1,26 @@
 // What is said on standard error, in sentences: what went wrong, where, and what became of it.
+use clock::Time;
 use libc::STDERR_FILENO;
 use saved::Sort;
 use shapes::Due;
 use shapes::Shape;
 
-fn say(words: &[u8]) {
+pub(crate) fn say(words: &[u8]) {
     io::write_all(STDERR_FILENO, words);
+}
+
+// Words, and the number that they lead to.
+pub(crate) fn number(words: &[u8], n: usize) {
+    say(words);
+    io::print_decimal(STDERR_FILENO, n as u64);
+}
+
+// Words, and the time that they lead to.
+pub(crate) fn time(words: &[u8], t: Time) {
+    say(words);
+    number(b"(", t.p as usize);
+    number(b",", t.l as usize);
+    say(b")");
 }
 
 pub(crate) fn cannot_write() {
@@ -30,9 +45,11 @@ pub(crate) fn cannot_load() {
 }
 
 // How every sentence on a refused load begins.
-fn nothing_loaded(number: u8) {
-    say(b"replay: nothing is loaded, and no line is answered (refusal ");
-    io::print_decimal(STDERR_FILENO, number as u64);
+pub(crate) fn nothing_loaded(refusal: usize) {
+    number(
+        b"replay: nothing is loaded, and no line is answered (refusal ",
+        refusal,
+    );
     say(b"): ");
 }
 
@@ -67,34 +84,7 @@ fn due(d: Due, broken: bool) {
 // Refusal 1: the line and what was due there.
 pub(crate) fn misshapen(s: Shape) {
     nothing_loaded(1);
-    say(b"line ");
-    io::print_decimal(STDERR_FILENO, s.number as u64);
+    number(b"line ", s.number);
     let broken = s.broken;
     due(shapes::expected(s), broken);
-}
-
-// Refusal 2 for a text that is longer than any saved form.
-pub(crate) fn too_long() {
-    nothing_loaded(2);
-    say(b"it is longer than the saved form of any record\n");
-}
-
-// Refusal 2 where the count or a server is none of a well-formed record, or where saving would write another text.
-pub(crate) fn ill_formed(count: usize, server: usize) {
-    nothing_loaded(2);
-    if count < cluster::FEWEST_SERVERS || cluster::MOST_SERVERS < count {
-        say(b"the server count is ");
-        io::print_decimal(STDERR_FILENO, count as u64);
-        say(b", and not 2 to 7\n");
-        return;
-    }
-    if server < cluster::MOST_SERVERS {
-        say(b"server ");
-        io::print_decimal(STDERR_FILENO, server as u64);
-        say(b" is none of a well-formed record; docs/SAVED.md tells what may stand there\n");
-        return;
-    }
-    say(
-        b"no record is saved so: a role is neither 00 nor 01, or notes are zero, twice or out of order\n",
-    );
 }

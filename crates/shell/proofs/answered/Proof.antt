@@ -21,7 +21,10 @@ broke-off-requires : tie.Need-broke-off-requires
 broke-off-requires c κs = search needs
 
 returns : tie.Need-returns
-returns c = answered-not _ _ (c .broke-off .ensures)
+returns c =
+    let matched = c .before in
+    let drained = matched .before .before .before in
+    answered-not _ _ (drained .drain .result) _ (drained .before .before .begin .ensures) (drained .drain .ensures) (matched .match .keys2) (c .broke-off .ensures)
 
 slice-aggregate-ended : tie.Need-slice-aggregate-ended
 slice-aggregate-ended c = search needs
@@ -32,7 +35,8 @@ ended-requires c κs = omega (arith, c, c .before .before .before .before)
 returns-2 : tie.Need-returns-2
 returns-2 c =
     let drained = c .before .before .before .before .before .before .before in
-    answered-all _ _ (drained .drain .result) _ (drained .before .before .begin .ensures) (drained .drain .ensures) (c .before .ended .ensures)
+    answered-all _ _ (drained .drain .result) _ (drained .before .before .begin .ensures) (drained .drain .ensures)
+    (c .before .before .before .enum-told .given .1) (c .before .ended .ensures)
 
 pub answered-spec : {M : Type 1} → statement M
 answered-spec =

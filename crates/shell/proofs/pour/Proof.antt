@@ -1,5 +1,4 @@
 -- `shell::pour` meets its contract: there is room for all, so `feed` takes all. Assumes nothing.
-use mathlib.Core.Bool.{true, false}
 use borrow.Author.Needs.{needs}
 use Rattle.shell.proofs.Loop.{poured}
 use Rattle.shell.proofs.pour.Statement.{statement}
@@ -11,23 +10,16 @@ feed-requires c κs = search needs
 write-first-requires : tie.Need-write-first-requires
 write-first-requires c κs = search needs
 
+closed-requires : tie.Need-closed-requires
+closed-requires c κs = search needs
+
 same-length : tie.Need-same-length
 same-length c = search needs
 
 returns : tie.Need-returns
 returns c =
     let fed = c .before .before .before .before .before .before in
-    poured _ _ _ _ _ true (fed .before .before .before .before .pre) (fed .feed .ensures .0) (fed .feed .ensures .1)
-
-same-length-2 : tie.Need-same-length-2
-same-length-2 c = search needs
-
-returns-2 : tie.Need-returns-2
-returns-2 c =
-    let fed = c .before .before .before .before .before .before in
-    poured _ _ _ _ _ false (fed .before .before .before .before .pre) (fed .feed .ensures .0) (fed .feed .ensures .1)
+    poured _ _ _ _ (fed .feed .result) (c .before .write-first .result) _ (fed .before .before .before .before .pre) (fed .feed .ensures .0) (fed .feed .ensures .1) (c .closed .ensures)
 
 pub pour-spec : {M : Type 1} → statement M
-pour-spec =
-    tie.close
-    (tie.spec feed-requires write-first-requires same-length returns same-length-2 returns-2)
+pour-spec = tie.close (tie.spec feed-requires write-first-requires closed-requires same-length returns)
