@@ -24,21 +24,24 @@ use Rattle.followed.proofs.Followed.{followed-append}
 use Rattle.phones.specs.declared.Listing.{Listing}
 use Rattle.phones.specs.Listed.{listedBy}
 use Rattle.phones.proofs.Texts.{listed-append}
+use Rattle.checks.specs.declared.passed.Passing.{Passing}
 use Rattle.checks.specs.declared.texts.Texts.{Texts}
+use Rattle.checks.specs.Passing.{passedBy}
 use Rattle.checks.specs.Reading.{takenBy, Turned, ReadOn}
+use Rattle.checks.proofs.PassedOver.{passed-append}
 
 -- a piece of the one text or of the other
 module _ (t : Texts) (piece : List ℕ) where
-  pub takes-steps : (steps : Bool) (f : Following) → steps ≡ true → f ≡ followedBy (t .following) piece
-      → _≡_ {A = Texts} (record { following = f; listing = t .listing }) (takenBy steps t piece)
-  takes-steps steps f e p = rw (e, p)
+  pub takes-steps : (steps : Bool) (f : Following) (p : Passing) → steps ≡ true → f ≡ followedBy (t .following) piece → p ≡ passedBy (t .passing) piece
+      → _≡_ {A = Texts} (record { following = f; listing = t .listing; passing = p; ending = t .ending }) (takenBy steps t piece)
+  takes-steps steps f p e g h = rw (e, g, h)
 
-  pub takes-phones : (steps : Bool) (l : Listing) → steps ≡ false → l ≡ listedBy (t .listing) piece
-      → _≡_ {A = Texts} (record { following = t .following; listing = l }) (takenBy steps t piece)
-  takes-phones steps l e p = rw (e, p)
+  pub takes-phones : (steps : Bool) (l : Listing) (q : Passing) → steps ≡ false → l ≡ listedBy (t .listing) piece → q ≡ passedBy (t .ending) piece
+      → _≡_ {A = Texts} (record { following = t .following; listing = l; passing = t .passing; ending = q }) (takenBy steps t piece)
+  takes-phones steps l q e g h = rw (e, g, h)
 
 module _ (steps : Bool) where
-  -- no piece leaves both as they are, and two pieces are taken like the text that they are
+  -- no piece leaves all as it is, and two pieces are taken like the text that they are
   takes-nothing : (t : Texts) → takenBy steps t [] ≡ t
   takes-nothing t = go steps
     where
@@ -50,8 +53,8 @@ module _ (steps : Bool) where
   takes-append t x y = go steps
     where
       go : (b : Bool) → takenBy b t (x ++ y) ≡ takenBy b (takenBy b t x) y
-      go true = cc (followed-append (t .following) x y)
-      go false = cc (listed-append (t .listing) x y)
+      go true = cc (followed-append (t .following) x y, passed-append (t .passing) x y)
+      go false = cc (listed-append (t .listing) x y, passed-append (t .ending) x y)
 
   -- ---- one turn
 

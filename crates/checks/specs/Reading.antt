@@ -12,16 +12,19 @@ use Rattle.shell.specs.declared.End.the-variants.{More, Input, CannotRead, Cann
 use Rattle.shell.specs.Loop.{mostTurns, endOf, given}
 use Rattle.followed.specs.Follow.{runOf, newFollowing, followedBy}
 use Rattle.phones.specs.Listed.{listOf, newListing, listedBy}
+use Rattle.checks.specs.Passing.{passedOf, newPassing, passedBy}
 use Rattle.checks.specs.declared.texts.Texts.{Texts}
 use Rattle.checks.specs.declared.texts.Both.{Both}
 
 abbrev pub newTexts : Texts
-newTexts = record { following = newFollowing; listing = newListing }
+newTexts = record { following = newFollowing; listing = newListing; passing = newPassing; ending = newPassing }
 
 -- one piece more, of the step lines or of the phones' records
 abbrev pub takenBy : Bool → Texts → List ℕ → Texts
-takenBy true t piece = record { following = followedBy (t .following) piece; listing = t .listing }
-takenBy false t piece = record { following = t .following; listing = listedBy (t .listing) piece }
+takenBy true t piece =
+    record { following = followedBy (t .following) piece; listing = t .listing; passing = passedBy (t .passing) piece; ending = t .ending }
+takenBy false t piece =
+    record { following = t .following; listing = listedBy (t .listing) piece; passing = t .passing; ending = passedBy (t .ending) piece }
 
 module _ (steps : Bool) where
   -- one turn: every byte that was given is taken, and the turn ends as it must
@@ -45,13 +48,16 @@ isInput Input = true
 isInput CannotRead = false
 isInput CannotWrite = false
 
--- the run and the list are those that the pieces of each text, as one text, are; all of it was read where the last read answered that it ends
+-- the run and the list are those that the pieces of each text, as one text, are, and so is what is passed over; all of it was read where the
+-- last read answered that it ends
 pub record ReadsBoth (b : Both) : Type 0 where
   pub steps : List (List ℕ)
   pub followed : b .run ≡ runOf (together steps)
+  pub passed : b .passed ≡ passedOf (together steps)
   pub last-steps : ℤ
   pub all-steps : b .steps ≡ isInput (endOf last-steps true)
   pub phones : List (List ℕ)
   pub listed : b .list ≡ listOf (together phones)
+  pub ends : b .ends ≡ passedOf (together phones)
   pub last-phones : ℤ
   pub all-phones : b .phones ≡ isInput (endOf last-phones true)

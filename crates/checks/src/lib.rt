@@ -1,6 +1,7 @@
 // The program that checks what phones saw: step lines from standard input, the phones' records from another descriptor, and one sentence to
 // standard output. A program crate of one line calls `run`.
 mod find;
+mod passed;
 mod say;
 mod sentence;
 mod texts;
@@ -18,5 +19,7 @@ pub fn run() {
     }
     let run = b.run;
     let list = b.list;
-    sentence::tell(run, list);
+    let passed = b.passed;
+    let ends = b.ends;
+    sentence::tell(run, list, passed, ends);
 }

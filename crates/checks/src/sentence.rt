@@ -1,5 +1,6 @@
 // The verdict as a sentence: first words for scripts, as docs/HISTORIES.md has them, and then words for a person.
 use crate::find;
+use crate::passed::Passed;
 use crate::say;
 use crate::say::say;
 use followed::Run;
@@ -13,31 +14,58 @@ use phones::Listed;
 use steps::Refusal;
 use verdicts::Verdict;
 
-// The one sentence.
-pub(crate) fn tell(run: Run, s: Listed) {
+// The one sentence, with what is passed over of the step lines, and of the phones'.
+pub(crate) fn tell(run: Run, s: Listed, passed: Passed, ends: Passed) {
     let v = verdicts::judge(run, s);
     let g = run.longest;
     match v {
-        Verdict::BadLine(n) => bad_line(n),
-        Verdict::NoStart => no_start(),
+        Verdict::BadLine(n) => bad_line(n, ends.cr),
+        Verdict::NoStart => {
+            no_start();
+            no_frames(passed);
+        }
         Verdict::Judged(c) => {
             judged(c, g, s);
             against(log::length_of(g), run.starts);
+            no_frames(passed);
         }
     }
+    say(b"\n");
 }
 
-fn bad_line(n: usize) {
+// A line that ends in CR is no record, so the first of them is no earlier than the first bad one.
+fn bad_line(n: usize, cr: usize) {
     say::number(b"refusal 1 at line ", n);
     say(
-        b": that line of the phones' file, which is the last one named, is no record (24 characters 0-9 a-f and then a line feed), so nothing is checked\n",
+        b": that line of the phones' file, which is the last one named, is no record (24 characters 0-9 a-f and then a line feed), so nothing is checked",
     );
+    if n == cr {
+        cr_lf(cr);
+    }
 }
 
 fn no_start() {
     say(
-        b"no start: no step line has started a cluster, so there is no log to check against; the step files are named first, the phones' file last\n",
+        b"no start: no step line has started a cluster, so there is no log to check against; the step files are named first, the phones' file last",
     );
+}
+
+// How many step lines change nothing since they are no frames, and which is the first.
+fn no_frames(p: Passed) {
+    if p.count == 0 {
+        return;
+    }
+    say::number(b"; step lines that are no frames: ", p.count);
+    say::number(b", the first of them line ", p.first);
+    say(b", counted over all step files");
+    if p.cr != 0 {
+        cr_lf(p.cr);
+    }
+}
+
+fn cr_lf(line: usize) {
+    say::number(b"; line ", line);
+    say(b" ends in CR LF, as in files from Windows: tr -d '\\r' <FILE >NEW takes the CR out");
 }
 
 fn judged(c: Checked, g: Log, s: Listed) {
@@ -53,16 +81,32 @@ fn judged(c: Checked, g: Log, s: Listed) {
 
 // What the records are checked against: so many entries, since the last of so many starts.
 fn against(entries: usize, starts: usize) {
+    if starts <= 1 {
+        covered_ever(entries);
+        return;
+    }
+    covered_since(entries);
+    say::number(b"; starts that succeeded: ", starts);
+    say(b", of which the last counts");
+}
+
+fn covered_ever(entries: usize) {
     if entries == 0 {
         say(b"; no commit point has ever covered an entry");
-    } else {
-        say::number(b"; entries that a commit point ever covered: ", entries);
+        return;
     }
-    if 1 < starts {
-        say::number(b"; starts that succeeded: ", starts);
-        say(b", of which the last counts, and what was covered since");
+    say::number(b"; entries that a commit point ever covered: ", entries);
+}
+
+fn covered_since(entries: usize) {
+    if entries == 0 {
+        say(b"; no commit point has covered an entry since the last start");
+        return;
     }
-    say(b"\n");
+    say::number(
+        b"; entries that a commit point covered since the last start: ",
+        entries,
+    );
 }
 
 fn refused(x: Refusal, s: Listed) {
@@ -78,7 +122,9 @@ fn refused(x: Refusal, s: Listed) {
 fn out_of_range(s: Listed) {
     say(b"refusal 3: ");
     if histories::MOST_RECORDS < s.count {
-        say(b"there are more than 256 records, so nothing is checked; give fewer at once");
+        say(
+            b"there are more than 256 records, so nothing is checked; give a file for each session, or several whole sessions at once, since a session that is cut in two is checked as two",
+        );
         return;
     }
     say::number(b"the record in line ", find::out_of_range(s) + 1);

@@ -2,6 +2,9 @@
 // launcher opens. One loop does for both.
 ghost use mathlib.Core.Path.{_≡_};
 ghost use Rattle.checks.specs.Reading.{newTexts, takenBy, isInput, Turned, ReadOn, ReadsBoth};
+use crate::passed;
+use crate::passed::Passed;
+use crate::passed::Passing;
 use followed::Following;
 use followed::Run;
 use libc::STDIN_FILENO;
@@ -14,10 +17,12 @@ const PHONES_FILENO: i32 = 5;
 // How many bytes are read at once.
 const PIECE: usize = 16384;
 
-// Both texts as far as they were read.
+// Both texts as far as they were read, and what is passed over of the step lines, and of the phones'.
 pub struct Texts {
     pub following: Following,
     pub listing: Listing,
+    pub passing: Passing,
+    pub ending: Passing,
 }
 
 // The same, and why it was read no further.
@@ -26,10 +31,12 @@ pub struct Taken {
     pub end: End,
 }
 
-// What both texts come to, and of each whether all of it was read.
+// What both texts come to, and of each what is passed over, and whether all of it was read.
 pub struct Both {
     pub run: Run,
     pub list: Listed,
+    pub passed: Passed,
+    pub ends: Passed,
     pub steps: bool,
     pub phones: bool,
 }
@@ -40,6 +47,8 @@ fn begin() -> Texts
     Texts {
         following: followed::begin(),
         listing: phones::begin(),
+        passing: passed::begin(),
+        ending: passed::begin(),
     }
 }
 
@@ -56,15 +65,21 @@ fn take(t: Texts, steps: bool, piece: &[u8]) -> Texts
 {
     let f = t.following;
     let l = t.listing;
+    let p = t.passing;
+    let q = t.ending;
     if steps {
         return Texts {
             following: followed::follow(f, piece),
             listing: l,
+            passing: passed::pass(p, piece),
+            ending: q,
         };
     }
     Texts {
         following: f,
         listing: phones::list(l, piece),
+        passing: p,
+        ending: passed::pass(q, piece),
     }
 }
 
@@ -135,11 +150,15 @@ pub(crate) fn read() -> Both
     let u = second.texts;
     let f = u.following;
     let l = u.listing;
+    let p = u.passing;
+    let q = u.ending;
     let ended = first.end;
     let over = second.end;
     Both {
         run: followed::finish(f),
         list: phones::finish(l),
+        passed: passed::finish(p),
+        ends: passed::finish(q),
         steps: is_input(ended),
         phones: is_input(over),
     }

@@ -19,6 +19,12 @@ finish-requires c κs = search needs
 finish-requires-2 : tie.Need-finish-requires-2
 finish-requires-2 c κs = search needs
 
+finish-requires-3 : tie.Need-finish-requires-3
+finish-requires-3 c κs = search needs
+
+finish-requires-4 : tie.Need-finish-requires-4
+finish-requires-4 c κs = search needs
+
 is-input-requires : tie.Need-is-input-requires
 is-input-requires c κs = search needs
 
@@ -28,10 +34,12 @@ is-input-requires-2 c κs = search needs
 returns : tie.Need-returns
 returns c =
     let finished = c .before .before in
-    let second = finished .before .before .before .before .before in
+    let lists = finished .before .before in
+    let parts = lists .before .before in
+    let second = parts .before .before .before .before .before in
     let first = second .before .before in
-    reads-both _ _ _ _ _ _ (first .before .begin .ensures) (first .read-on .ensures) (second .read-on2 .ensures) (finished .before .finish .ensures) (finished .finish2 .ensures) (c .before .is-input .ensures)
-    (c .is-input2 .ensures)
+    reads-both _ _ _ _ _ _ (first .before .begin .ensures) (first .read-on .ensures) (second .read-on2 .ensures) (lists .before .finish .ensures) (lists .finish2 .ensures)
+    (finished .before .finish3 .ensures) (finished .finish4 .ensures) (c .before .is-input .ensures) (c .is-input2 .ensures)
 
 pub read-spec : {M : Type 1} → statement M
 read-spec =
@@ -42,6 +50,8 @@ read-spec =
     read-on-requires-2
     finish-requires
     finish-requires-2
+    finish-requires-3
+    finish-requires-4
     is-input-requires
     is-input-requires-2
     returns)

@@ -1,0 +1,20 @@
+-- `checks::passed::noted` meets its contract. Assumes nothing.
+use borrow.Author.Tests.{eq-eqb, ne-eqb}
+use Rattle.checks.specs.Passing.{noted}
+use Rattle.checks.proofs.passed.noted.Statement.{statement}
+use Rattle.checks.proofs.passed.noted.Tie as tie
+
+returns : tie.Need-returns
+unfolding noted
+returns c = simp (c .before .if1 .taken, eq-eqb _ 0 (c .if2 .taken))
+
+returns-2 : tie.Need-returns-2
+unfolding noted
+returns-2 c = simp (c .before .if1 .taken, ne-eqb _ 0 (c .if2 .left))
+
+returns-3 : tie.Need-returns-3
+unfolding noted
+returns-3 c = simp (c .if1 .left)
+
+pub noted-spec : {M : Type 1} → statement M
+noted-spec = tie.close (tie.spec returns returns-2 returns-3)

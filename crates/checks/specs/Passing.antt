@@ -1,0 +1,78 @@
+-- The lines of a text that are no step frames: how many there are, and which is the first; and the first line that ends in CR. Nobody has to
+-- believe this: no verdict goes by it. Assumes nothing.
+use mathlib.Core.Bool.{Bool, true, false, cond}
+use mathlib.Core.List.{List, [], _∷_}
+use Prim.Native.Nat.{ℕ}
+use lib.Dec.{eqb}
+use Rattle.frames.specs.declared.ReadStep.{ReadStep}
+use Rattle.frames.specs.declared.ReadStep.the-variants.{Step, NoFrame}
+use Rattle.frames.specs.Steps.{readStep}
+use Rattle.replay.specs.Texts.{lineFeed, lines}
+use Rattle.replay.specs.Pieces.{freshReader, lineHeld, pushOf, isEmpty}
+use Rattle.replay.specs.Folds.{overLines}
+use Rattle.phones.specs.Listed.{numberAfter}
+use Rattle.checks.specs.declared.passed.Passed.{Passed}
+use Rattle.checks.specs.declared.passed.Passing.{Passing}
+
+abbrev pub carriageReturn : ℕ
+carriageReturn = 13
+
+abbrev pub isNone : ReadStep → Bool
+isNone (Step s) = false
+isNone NoFrame = true
+
+-- one more where it is so, as far as a number goes
+unfoldable pub counted : ℕ → Bool → ℕ
+counted n so = cond so (numberAfter n) n
+
+-- the first line where it was so; 0 for none
+unfoldable pub noted : ℕ → ℕ → Bool → ℕ
+noted first number so = cond so (cond (eqb first 0) number first) first
+
+-- the last character of a line, where a is the one before it
+abbrev pub lastAfter : ℕ → List ℕ → ℕ
+lastAfter a [] = a
+lastAfter a (b ∷ bs) = lastAfter b bs
+
+-- before the first line
+abbrev pub newPassed : Passed
+newPassed = record { number = 1; count = 0; first = 0; cr = 0 }
+
+-- a line that reads so and ends in that character
+unfoldable pub afterRead : Passed → ReadStep → ℕ → Passed
+afterRead p read last =
+    record {
+      number = counted (p .number) true;
+      count = counted (p .count) (isNone read);
+      first = noted (p .first) (p .number) (isNone read);
+      cr = noted (p .cr) (p .number) (eqb last carriageReturn);
+    }
+
+abbrev pub afterLine : Passed → List ℕ → Passed
+afterLine p line = afterRead p (readStep line) (lastAfter 0 line)
+
+-- what is passed over of a text
+abbrev pub passedOf : List ℕ → Passed
+passedOf text = overLines afterLine newPassed (lines text)
+
+-- ---- byte by byte, which by `passed-text` comes to the same
+
+abbrev pub newPassing : Passing
+newPassing = record { passed = newPassed; reader = freshReader; last = 0 }
+
+-- the line that is held has ended
+abbrev pub heldEnded : Passing → Passed
+heldEnded p = afterRead (p .passed) (readStep (lineHeld (p .reader))) (p .last)
+
+unfoldable pub afterByte : Passing → ℕ → Passing
+afterByte p b =
+    cond (eqb b lineFeed) (record { passed = heldEnded p; reader = freshReader; last = 0 })
+    (record { passed = p .passed; reader = pushOf (p .reader) b; last = b })
+
+abbrev pub passedBy : Passing → List ℕ → Passing
+passedBy p [] = p
+passedBy p (b ∷ bs) = passedBy (afterByte p b) bs
+
+-- a rest counts if it isn't empty
+unfoldable pub finishedPassed : Passing → Passed
+finishedPassed p = cond (isEmpty (p .reader)) (p .passed) (heldEnded p)
