@@ -11,9 +11,9 @@ use Rattle.log.specs.Order.{entryOk, follows, placeOk, inOrder}
 use Rattle.steps.specs.declared.Refusal.the-variants.{IllFormed}
 use Rattle.histories.specs.declared.PhoneRecord.{PhoneRecord}
 use Rattle.histories.specs.declared.Checked.the-variants.{Breaks, Refused}
-use Rattle.histories.specs.Committed.{lent, joined, together, couldHold}
-use Rattle.histories.specs.Rules.{noRecord, inRange, sameWrite, readable, writeObeys, notBefore}
-use Rattle.histories.specs.Checking.{firstBreaker, listOk, answerTo, checkOf}
+use Rattle.histories.specs.Committed.{lent, entriesOn, sameLengths, couldHold}
+use Rattle.histories.specs.Rules.{noRecord, recordInRange, sameWrite, readable, writeObeys, notBefore}
+use Rattle.histories.specs.Checking.{firstBreaker, listOk, checkedOf, checkOf}
 use Rattle.histories.specs.Walking.{startOf, fitsOn, lookedAt}
 use Rattle.apart.proofs.Things.{at, x, z}
 
@@ -50,7 +50,7 @@ unfolding writeObeys
 position-0-accepted = refl
 
 pub refusal-3-before-2 : checkOf (seen 1 7 (at 1 0) ∷ []) (lent (0 ∷ []) (5 ∷ []) (41 ∷ []) (1 ∷ []) (0 ∷ [])) ≡ Refused IllFormed
-unfolding every entryAt entryOk follows placeOk inOrder joined together couldHold inRange listOk answerTo
+unfolding every entryAt entryOk follows placeOk inOrder entriesOn sameLengths couldHold recordInRange listOk checkedOf
 refusal-3-before-2 = refl
 
 pub the-last-breaker-named : firstBreaker 2 (λ i. false) ≡ Breaks 0
@@ -58,7 +58,7 @@ unfolding firstBreaker
 the-last-breaker-named = refl
 
 pub records-256-refused : fitsOn 255 (seen 1 6 (at 1 0)) ≡ true
-unfolding inRange fitsOn
+unfolding recordInRange fitsOn
 records-256-refused = refl
 
 pub records-257-accepted : fitsOn 256 (seen 1 6 (at 1 0)) ≡ false

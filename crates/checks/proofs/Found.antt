@@ -7,16 +7,16 @@ use native.Mathlib.Omega.{arith}
 use Rattle.base.specs.Numbers.{every}
 use Rattle.base.proofs.Every.{every-at}
 use Rattle.histories.specs.declared.PhoneRecord.{PhoneRecord}
-use Rattle.histories.specs.Rules.{inRange, notBefore}
+use Rattle.histories.specs.Rules.{recordInRange, notBefore}
 use Rattle.histories.specs.Checking.{recordAt}
 use Rattle.phones.specs.Listed.{mostKept}
 use Rattle.checks.specs.Finding.{FirstOut, LaterBefore}
 
 module _ (rs : List PhoneRecord) (i : ℕ) where
-  pub out-here : i < mostKept → every i (λ j. inRange (recordAt rs j)) ≡ true → inRange (recordAt rs i) ≡ false → FirstOut rs i
+  pub out-here : i < mostKept → every i (λ j. recordInRange (recordAt rs j)) ≡ true → recordInRange (recordAt rs i) ≡ false → FirstOut rs i
   out-here h e f = record { within = omega arith; before = λ j l. every-at _ i j e l; here = λ _. f }
 
-  pub out-none : i ≡ mostKept → every i (λ j. inRange (recordAt rs j)) ≡ true → FirstOut rs mostKept
+  pub out-none : i ≡ mostKept → every i (λ j. recordInRange (recordAt rs j)) ≡ true → FirstOut rs mostKept
   out-none h e = record { within = omega arith; before = λ j l. every-at _ i j e (omega arith); here = λ l. let z : ⊥ = omega arith in absurd z }
 
 module _ (rs : List PhoneRecord) (n j : ℕ) where

@@ -22,7 +22,7 @@ use Rattle.replay.proofs.Lines.{Plain, none, more, plain-snoc, line-first, line
 use Rattle.replay.proofs.Whole.{StandsFor, fresh-holds, push-holds}
 use Rattle.checks.specs.declared.passed.Passed.{Passed}
 use Rattle.checks.specs.declared.passed.Passing.{Passing}
-use Rattle.checks.specs.Passing.{lastAfter, newPassed, afterRead, afterLine, passedOf, newPassing, heldEnded, afterByte, passedBy, finishedPassed}
+use Rattle.checks.specs.Passing.{lastAfter, newPassed, passedAfterRead, passedAfterLine, passedOf, newPassing, heldEnded, afterByte, passedBy, finishedPassed}
 
 -- two pieces are passed like the text that they are
 pub passed-append : (p : Passing) (x y : List ℕ) → passedBy p (x ++ y) ≡ passedBy (passedBy p x) y
@@ -34,12 +34,12 @@ last-snoc a [] b = refl
 last-snoc a (c ∷ p) b = last-snoc c p b
 
 -- a line that is held has ended as the one that it stands for
-ended : (p : Passing) (q : List ℕ) → StandsFor (p .reader) q → p .last ≡ lastAfter 0 q → heldEnded p ≡ afterLine (p .passed) q
+ended : (p : Passing) (q : List ℕ) → StandsFor (p .reader) q → p .last ≡ lastAfter 0 q → heldEnded p ≡ passedAfterLine (p .passed) q
 unfolding lineHeld
 ended p q h e =
     let r = p .reader in
-    ap (λ (x : ReadStep). afterRead (p .passed) x (p .last)) (held-framed stepBytes stepIn NoFrame kept (omega arith) (r .held) (r .fill) (r .over) h)
-    ∙ ap (afterRead (p .passed) (readStep q)) e
+    ap (λ (x : ReadStep). passedAfterRead (p .passed) x (p .last)) (held-framed stepBytes stepIn NoFrame kept (omega arith) (r .held) (r .fill) (r .over) h)
+    ∙ ap (passedAfterRead (p .passed) (readStep q)) e
 
 -- after a byte, by whether it is a line feed
 abbrev byFeed : Passing → ℕ → Bool → Passing
@@ -49,24 +49,24 @@ byFeed p b x = cond x (record { passed = heldEnded p; reader = freshReader; last
 abbrev From : List ℕ → Type 0
 From text =
     (p : Passing) (q : List ℕ) → Plain q → StandsFor (p .reader) q → p .last ≡ lastAfter 0 q
-    → finishedPassed (passedBy p text) ≡ overLines afterLine (p .passed) (lines (q ++ text))
+    → finishedPassed (passedBy p text) ≡ overLines passedAfterLine (p .passed) (lines (q ++ text))
 
 from : (text : List ℕ) → From text
 unfolding finishedPassed afterByte
 from [] p [] s h e = simp (held-empty h)
 from [] p (b ∷ q) (more n s) h e =
     simp (held-some h)
-    (ended p (b ∷ q) h e ∙ sym (ap (overLines afterLine (p .passed)) (ap (λ (l : List ℕ). lines (b ∷ l)) (append-nil q) ∙ line-last b q n s)))
+    (ended p (b ∷ q) h e ∙ sym (ap (overLines passedAfterLine (p .passed)) (ap (λ (l : List ℕ). lines (b ∷ l)) (append-nil q) ∙ line-last b q n s)))
 from (b ∷ text) p q s h e = go (from text) (eqb b lineFeed) refl
   where
     go : From text → (x : Bool) → eqb b lineFeed ≡ x
-        → finishedPassed (passedBy (byFeed p b x) text) ≡ overLines afterLine (p .passed) (lines (q ++ (b ∷ text)))
+        → finishedPassed (passedBy (byFeed p b x) text) ≡ overLines passedAfterLine (p .passed) (lines (q ++ (b ∷ text)))
     go on true n =
-        on (byFeed p b true) [] none fresh-holds refl ∙ ap (λ (x : Passed). overLines afterLine x (lines text)) (ended p q h e)
-        ∙ sym (ap (overLines afterLine (p .passed)) (ap (λ (k : ℕ). lines (q ++ (k ∷ text))) (eqb-true b lineFeed n) ∙ line-first text s))
+        on (byFeed p b true) [] none fresh-holds refl ∙ ap (λ (x : Passed). overLines passedAfterLine x (lines text)) (ended p q h e)
+        ∙ sym (ap (overLines passedAfterLine (p .passed)) (ap (λ (k : ℕ). lines (q ++ (k ∷ text))) (eqb-true b lineFeed n) ∙ line-first text s))
     go on false n =
         on (byFeed p b false) (q ++ (b ∷ [])) (plain-snoc b s n) (push-holds (p .reader) b h) (last-snoc 0 q b)
-        ∙ ap (λ (l : List ℕ). overLines afterLine (p .passed) (lines l)) (append-assoc q (b ∷ []) text)
+        ∙ ap (λ (l : List ℕ). overLines passedAfterLine (p .passed) (lines l)) (append-assoc q (b ∷ []) text)
 
 -- THE THEOREM: at the end, what was passed over is that of the text's lines
 pub passed-text : (text : List ℕ) → finishedPassed (passedBy newPassing text) ≡ passedOf text

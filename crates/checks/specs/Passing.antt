@@ -26,8 +26,8 @@ unfoldable pub counted : ℕ → Bool → ℕ
 counted n so = cond so (numberAfter n) n
 
 -- the first line where it was so; 0 for none
-unfoldable pub noted : ℕ → ℕ → Bool → ℕ
-noted first number so = cond so (cond (eqb first 0) number first) first
+unfoldable pub firstNoted : ℕ → ℕ → Bool → ℕ
+firstNoted first number so = cond so (cond (eqb first 0) number first) first
 
 -- the last character of a line, where a is the one before it
 abbrev pub lastAfter : ℕ → List ℕ → ℕ
@@ -39,21 +39,21 @@ abbrev pub newPassed : Passed
 newPassed = record { number = 1; count = 0; first = 0; cr = 0 }
 
 -- a line that reads so and ends in that character
-unfoldable pub afterRead : Passed → ReadStep → ℕ → Passed
-afterRead p read last =
+unfoldable pub passedAfterRead : Passed → ReadStep → ℕ → Passed
+passedAfterRead p read last =
     record {
       number = counted (p .number) true;
       count = counted (p .count) (isNone read);
-      first = noted (p .first) (p .number) (isNone read);
-      cr = noted (p .cr) (p .number) (eqb last carriageReturn);
+      first = firstNoted (p .first) (p .number) (isNone read);
+      cr = firstNoted (p .cr) (p .number) (eqb last carriageReturn);
     }
 
-abbrev pub afterLine : Passed → List ℕ → Passed
-afterLine p line = afterRead p (readStep line) (lastAfter 0 line)
+abbrev pub passedAfterLine : Passed → List ℕ → Passed
+passedAfterLine p line = passedAfterRead p (readStep line) (lastAfter 0 line)
 
 -- what is passed over of a text
 abbrev pub passedOf : List ℕ → Passed
-passedOf text = overLines afterLine newPassed (lines text)
+passedOf text = overLines passedAfterLine newPassed (lines text)
 
 -- ---- byte by byte, which by `passed-text` comes to the same
 
@@ -62,7 +62,7 @@ newPassing = record { passed = newPassed; reader = freshReader; last = 0 }
 
 -- the line that is held has ended
 abbrev pub heldEnded : Passing → Passed
-heldEnded p = afterRead (p .passed) (readStep (lineHeld (p .reader))) (p .last)
+heldEnded p = passedAfterRead (p .passed) (readStep (lineHeld (p .reader))) (p .last)
 
 unfoldable pub afterByte : Passing → ℕ → Passing
 afterByte p b =

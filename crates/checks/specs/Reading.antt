@@ -10,7 +10,7 @@ use Rattle.replay.specs.Pieces.{together}
 use Rattle.shell.specs.declared.End.{End}
 use Rattle.shell.specs.declared.End.the-variants.{More, Input, CannotRead, CannotWrite}
 use Rattle.shell.specs.Loop.{mostTurns, endOf, given}
-use Rattle.followed.specs.Follow.{runOf, newFollowing, followedBy}
+use Rattle.followed.specs.Follow.{runFollowed, newFollowing, followedBy}
 use Rattle.phones.specs.Listed.{listOf, newListing, listedBy}
 use Rattle.checks.specs.Passing.{passedOf, newPassing, passedBy}
 use Rattle.checks.specs.declared.texts.Texts.{Texts}
@@ -52,7 +52,7 @@ isInput CannotWrite = false
 -- last read answered that it ends
 pub record ReadsBoth (b : Both) : Type 0 where
   pub steps : List (List ℕ)
-  pub followed : b .run ≡ runOf (together steps)
+  pub followed : b .run ≡ runFollowed (together steps)
   pub passed : b .passed ≡ passedOf (together steps)
   pub last-steps : ℤ
   pub all-steps : b .steps ≡ isInput (endOf last-steps true)

@@ -1,6 +1,6 @@
 // What is passed over of a text: how many of its lines are no step frames, and the first of them; and the first line that ends in CR.
 ghost use mathlib.Core.Path.{_≡_};
-ghost use Rattle.checks.specs.Passing.{isNone, counted, noted, afterRead, newPassing, afterByte, passedBy, finishedPassed};
+ghost use Rattle.checks.specs.Passing.{isNone, counted, firstNoted, passedAfterRead, newPassing, afterByte, passedBy, finishedPassed};
 use frames::ReadStep;
 use replay::Reader;
 
@@ -61,7 +61,7 @@ fn counted(n: usize, so: bool) -> usize
 
 // The number of the first line where it was so: this one's, where it is so and was not before.
 fn noted(first: usize, number: usize, so: bool) -> usize
-    ensures { λ r. ⌜ r ≡ noted first number so ⌝ }
+    ensures { λ r. ⌜ r ≡ firstNoted first number so ⌝ }
 {
     if so {
         if first == 0 {
@@ -73,7 +73,7 @@ fn noted(first: usize, number: usize, so: bool) -> usize
 
 // After a line that reads so and ends in that character.
 fn after_line(p: Passed, read: ReadStep, last: u8) -> Passed
-    ensures { λ r. ⌜ r ≡ afterRead p read last ⌝ }
+    ensures { λ r. ⌜ r ≡ passedAfterRead p read last ⌝ }
 {
     let none = is_none(read);
     Passed {

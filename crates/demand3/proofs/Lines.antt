@@ -14,7 +14,7 @@ use Rattle.frames.proofs.Steps.{read-step-fits}
 use Rattle.replay.specs.Texts.{respond, answerTo, recordAfter}
 use Rattle.safety.specs.Promise.{runOf, StepsFrom}
 use Rattle.demand3.specs.Promise.{Line, NoneBegins}
-use Rattle.demand3.specs.Lines.{joined, stepsIn}
+use Rattle.demand3.specs.Lines.{withStep, stepsIn}
 use Rattle.demand3.proofs.Starts.{start-of, answer-is, answer-of}
 
 -- they lead to the same record
@@ -23,7 +23,7 @@ unfolding answerTo respond
 same-record c [] = refl
 same-record c (l ∷ ls) = go (readStep l) (λ d. same-record d ls)
   where
-    go : (r : ReadStep) → ((d : Cluster) → recordAfter d ls ≡ runOf d (stepsIn ls)) → recordAfter (respond c r .cluster) ls ≡ runOf c (joined r (stepsIn ls))
+    go : (r : ReadStep) → ((d : Cluster) → recordAfter d ls ≡ runOf d (stepsIn ls)) → recordAfter (respond c r .cluster) ls ≡ runOf c (withStep r (stepsIn ls))
     go (R.Step s) more = more (stepOf c s .cluster)
     go R.NoFrame more = more c
 
@@ -38,6 +38,6 @@ steps-from c (l ∷ ls) h = go (readStep l) refl (λ d. steps-from d ls) (h .1)
         let m = start-of s y in h .0 (m .0) (record { reads = e ∙ ap R.Step (m .1); done = answer-of (answer-is c l s e) ∙ d })
 
     go : (r : ReadStep) → readStep l ≡ r → ((d : Cluster) → NoneBegins d ls → StepsFrom d (stepsIn ls)) → NoneBegins (respond c r .cluster) ls
-        → StepsFrom c (joined r (stepsIn ls))
+        → StepsFrom c (withStep r (stepsIn ls))
     go (R.Step s) e more t = (read-step-fits l s e, no-start s e, more (stepOf c s .cluster) t)
     go R.NoFrame e more t = more c t

@@ -73,5 +73,6 @@ every-newest-run n two seven r =
       stretch = stretch two seven r;
       moment-is = stretch-moment n (r .until) (r .on) (from-it two seven r) two seven (r .steps-until) (r .steps-on);
       reader-is = to-reader two seven r;
+      asked-is = refl;
       read-is = refl;
     }

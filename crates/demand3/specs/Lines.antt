@@ -7,10 +7,10 @@ use Rattle.frames.specs.Steps.{readStep}
 use Rattle.demand3.specs.Promise.{Line}
 
 -- a line that is no frame gives none
-abbrev pub joined : ReadStep → List Step → List Step
-joined (R.Step s) ss = s ∷ ss
-joined R.NoFrame ss = ss
+abbrev pub withStep : ReadStep → List Step → List Step
+withStep (R.Step s) ss = s ∷ ss
+withStep R.NoFrame ss = ss
 
 abbrev pub stepsIn : List Line → List Step
 stepsIn [] = []
-stepsIn (l ∷ ls) = joined (readStep l) (stepsIn ls)
+stepsIn (l ∷ ls) = withStep (readStep l) (stepsIn ls)

@@ -47,6 +47,7 @@ pub record NewestAsText {n : ℕ} (r : NewestRun n) : Type 0 where
   pub stretch : NewestStretch text
   pub moment-is : moment (stretch .stretch) ≡ momentIn r
   pub reader-is : reader stretch ≡ readIn r
+  pub asked-is : stretch .a ≡ r .a
   pub read-is : stretch .read ≡ r .read
 
 abbrev pub EveryNewestRun : Type 0

@@ -12,7 +12,7 @@ use Rattle.frames.specs.Steps.{readStep}
 use Rattle.replay.specs.Texts.{answerTo, recordAfter}
 use Rattle.replay.specs.Folds.{overLines}
 use Rattle.followed.specs.declared.Run.{Run}
-use Rattle.followed.specs.Follow.{begins, mostStarts, startsAfter, afterRead, afterLine, NoneStarts}
+use Rattle.followed.specs.Follow.{begins, mostStarts, startsAfter, runAfterRead, runAfterLine, NoneStarts}
 use Rattle.followed.proofs.Followed.{line-record}
 
 -- ---- how many
@@ -28,35 +28,35 @@ start-counted n = ⊎-elim below above (lt-or-le n mostStarts)
     above h = rw (le-ltb n mostStarts h) (omega arith)
 
 module _ (r : Run) (l : List ℕ) where
-  one-starts : begins (readStep l) (answerTo (r .cluster) l .answer) ≡ true → 0 < afterLine r l .starts
-  unfolding afterRead answerTo
+  one-starts : begins (readStep l) (answerTo (r .cluster) l .answer) ≡ true → 0 < runAfterLine r l .starts
+  unfolding runAfterRead answerTo
   one-starts e = rw e (start-counted (r .starts))
 
-  other-starts : begins (readStep l) (answerTo (r .cluster) l .answer) ≡ false → afterLine r l .starts ≡ r .starts
-  unfolding afterRead answerTo
+  other-starts : begins (readStep l) (answerTo (r .cluster) l .answer) ≡ false → runAfterLine r l .starts ≡ r .starts
+  unfolding runAfterRead answerTo
   other-starts e = rw e refl
 
-  still-starts : 0 < r .starts → 0 < afterLine r l .starts
+  still-starts : 0 < r .starts → 0 < runAfterLine r l .starts
   still-starts h = go (begins (readStep l) (answerTo (r .cluster) l .answer)) refl
     where
-      go : (b : Bool) → begins (readStep l) (answerTo (r .cluster) l .answer) ≡ b → 0 < afterLine r l .starts
+      go : (b : Bool) → begins (readStep l) (answerTo (r .cluster) l .answer) ≡ b → 0 < runAfterLine r l .starts
       go true e = one-starts e
       go false e = omega (arith, other-starts e)
 
 -- once there was a start there is one
-pub some-started : (r : Run) (ls : List (List ℕ)) → 0 < r .starts → 0 < overLines afterLine r ls .starts
+pub some-started : (r : Run) (ls : List (List ℕ)) → 0 < r .starts → 0 < overLines runAfterLine r ls .starts
 some-started r [] h = h
-some-started r (l ∷ ls) h = some-started (afterLine r l) ls (still-starts r l h)
+some-started r (l ∷ ls) h = some-started (runAfterLine r l) ls (still-starts r l h)
 
 pub started-at : (r : Run) (l : List ℕ) (ls : List (List ℕ)) → begins (readStep l) (answerTo (r .cluster) l .answer) ≡ true
-    → 0 < overLines afterLine r (l ∷ ls) .starts
-started-at r l ls e = some-started (afterLine r l) ls (one-starts r l e)
+    → 0 < overLines runAfterLine r (l ∷ ls) .starts
+started-at r l ls e = some-started (runAfterLine r l) ls (one-starts r l e)
 
 -- as many as before where none of the lines is one
-pub none-started : (r : Run) (ls : List (List ℕ)) → NoneStarts (r .cluster) ls → overLines afterLine r ls .starts ≡ r .starts
+pub none-started : (r : Run) (ls : List (List ℕ)) → NoneStarts (r .cluster) ls → overLines runAfterLine r ls .starts ≡ r .starts
 none-started r [] h = refl
 none-started r (l ∷ ls) h =
-    none-started (afterLine r l) ls (subst (λ (c : Cluster). NoneStarts c ls) (sym (line-record r l)) (h .1)) ∙ other-starts r l (h .0)
+    none-started (runAfterLine r l) ls (subst (λ (c : Cluster). NoneStarts c ls) (sym (line-record r l)) (h .1)) ∙ other-starts r l (h .0)
 
 -- ---- which is the last
 

@@ -46,8 +46,8 @@ abbrev pub newRun : Run
 newRun = record { cluster = zeroCluster; longest = emptyLog; starts = 0 }
 
 -- a line is answered; a start that succeeds begins anew with nothing covered
-unfoldable pub afterRead : Run → ReadStep → Run
-afterRead r read =
+unfoldable pub runAfterRead : Run → ReadStep → Run
+runAfterRead r read =
     cond (begins read (respond (r .cluster) read .answer))
     (record {
       cluster = respond (r .cluster) read .cluster;
@@ -60,12 +60,12 @@ afterRead r read =
       starts = r .starts;
     })
 
-abbrev pub afterLine : Run → List ℕ → Run
-afterLine r line = afterRead r (readStep line)
+abbrev pub runAfterLine : Run → List ℕ → Run
+runAfterLine r line = runAfterRead r (readStep line)
 
 -- the run that a text is
-abbrev pub runOf : List ℕ → Run
-runOf text = overLines afterLine newRun (lines text)
+abbrev pub runFollowed : List ℕ → Run
+runFollowed text = overLines runAfterLine newRun (lines text)
 
 -- lines in turn from c on, none of which is a start that succeeds
 abbrev pub NoneStarts : Cluster → List (List ℕ) → Type 0
@@ -78,7 +78,7 @@ abbrev pub newFollowing : Following
 newFollowing = record { run = newRun; reader = freshReader }
 
 abbrev pub followedBy : Following → List ℕ → Following
-followedBy f piece = record { run = overBytes afterLine (f .run) (f .reader) piece; reader = readerOver (f .reader) piece }
+followedBy f piece = record { run = overBytes runAfterLine (f .run) (f .reader) piece; reader = readerOver (f .reader) piece }
 
 abbrev pub finishedRun : Following → Run
-finishedRun f = atEnd afterLine (f .run) (f .reader)
+finishedRun f = atEnd runAfterLine (f .run) (f .reader)

@@ -1,7 +1,7 @@
 // A run that is followed line by line: the record, the longest beginning that was covered since the last start that succeeded, and how
 // many starts have.
 ghost use mathlib.Core.Path.{_≡_};
-ghost use Rattle.followed.specs.Follow.{isDone, begins, startsAfter, afterRead, newFollowing, followedBy, finishedRun};
+ghost use Rattle.followed.specs.Follow.{isDone, begins, startsAfter, runAfterRead, newFollowing, followedBy, finishedRun};
 use cluster::Cluster;
 use frames::ReadStep;
 use log::Log;
@@ -76,7 +76,7 @@ fn starts_after(n: usize) -> usize
 
 // The run after a line that reads so. A start that succeeds begins it anew.
 fn after_line(r: Run, read: ReadStep) -> Run
-    ensures { λ q. ⌜ q ≡ afterRead r read ⌝ }
+    ensures { λ q. ⌜ q ≡ runAfterRead r read ⌝ }
 {
     let c = r.cluster;
     let o = replay::respond_to(c, read);

@@ -19,8 +19,8 @@ use Rattle.histories.specs.declared.Checked.{Checked}
 use Rattle.histories.specs.declared.Checked.the-variants.{Accepted, Breaks, Refused}
 use Rattle.histories.specs.declared.Seen.{Seen}
 use Rattle.histories.specs.Committed.{Committed, entriesOf, couldHold}
-use Rattle.histories.specs.Rules.{noRecord, inRange, obeys}
-use Rattle.histories.specs.Checking.{mostRecords, recordAt, obeysAt, andThen, firstBreaker, listOk, answerTo, checkOf}
+use Rattle.histories.specs.Rules.{noRecord, recordInRange, obeys}
+use Rattle.histories.specs.Checking.{mostRecords, recordAt, obeysAt, andThen, firstBreaker, listOk, checkedOf, checkOf}
 use Rattle.histories.proofs.Breakers.{Found, breaker-found}
 use Rattle.histories.specs.Walking.{earlierOf, startOf, fitsOn, carriedOn, ownAnswer, nextAnswer, lookedAt}
 
@@ -32,10 +32,10 @@ unfolding listOk fitsOn every
 list-more rs i = go (ltb i mostRecords) refl
   where
     go : (b : Bool) → ltb i mostRecords ≡ b
-        → (leb (suc i) mostRecords && (every i (λ j. inRange (recordAt rs j)) && inRange (recordAt rs i)))
-        ≡ ((leb i mostRecords && every i (λ j. inRange (recordAt rs j))) && (ltb i mostRecords && inRange (recordAt rs i)))
+        → (leb (suc i) mostRecords && (every i (λ j. recordInRange (recordAt rs j)) && recordInRange (recordAt rs i)))
+        ≡ ((leb i mostRecords && every i (λ j. recordInRange (recordAt rs j))) && (ltb i mostRecords && recordInRange (recordAt rs i)))
     go true e = let l = ltb-true i mostRecords e in rw (e, le-leb i mostRecords (omega arith))
-    go false e = rw e (sym (and-no (leb i mostRecords && every i (λ j. inRange (recordAt rs j))) false refl))
+    go false e = rw e (sym (and-no (leb i mostRecords && every i (λ j. recordInRange (recordAt rs j))) false refl))
 
 -- the answer after one record more, from the answer before and the record's own
 answer-more : (h l f : Bool) (b own : Checked) (n : ℕ) (p : ℕ → Bool) → Found n p b
@@ -60,35 +60,35 @@ module _ (g : Committed) (rs : List PhoneRecord) (i : ℕ) where
   abbrev ownAt : Checked
   ownAt = cond (obeysAt (entriesOf g) rs i) Accepted (Breaks i)
 
-  whole : answerTo g rs (suc i) ≡ andThen (carriedOn (answerTo g rs i) (fitsOn i (recordAt rs i))) ownAt
-  unfolding answerTo firstBreaker
+  whole : checkedOf g rs (suc i) ≡ andThen (carriedOn (checkedOf g rs i) (fitsOn i (recordAt rs i))) ownAt
+  unfolding checkedOf firstBreaker
   whole =
       ap (λ (l : Bool). cond (couldHold g) (cond l (andThen (firstBreaker i (obeysAt (entriesOf g) rs)) ownAt) (Refused OutOfRange)) (Refused IllFormed)) (list-more rs i)
       ∙ answer-more (couldHold g) (listOk rs i) (fitsOn i (recordAt rs i)) (firstBreaker i (obeysAt (entriesOf g) rs)) ownAt i (obeysAt (entriesOf g) rs) (breaker-found i (obeysAt (entriesOf g) rs))
 
   answer-next : (own : Checked) → (fitsOn i (recordAt rs i) ≡ true → own ≡ ownAt)
-      → andThen (carriedOn (answerTo g rs i) (fitsOn i (recordAt rs i))) own ≡ answerTo g rs (suc i)
+      → andThen (carriedOn (checkedOf g rs i) (fitsOn i (recordAt rs i))) own ≡ checkedOf g rs (suc i)
   answer-next own same = go (fitsOn i (recordAt rs i)) refl ∙ sym whole
     where
-      go : (f : Bool) → fitsOn i (recordAt rs i) ≡ f → andThen (carriedOn (answerTo g rs i) f) own ≡ andThen (carriedOn (answerTo g rs i) f) ownAt
-      go true e = ap (andThen (carriedOn (answerTo g rs i) true)) (same e)
-      go false e = own-idle (answerTo g rs i) own ownAt
+      go : (f : Bool) → fitsOn i (recordAt rs i) ≡ f → andThen (carriedOn (checkedOf g rs i) f) own ≡ andThen (carriedOn (checkedOf g rs i) f) ownAt
+      go true e = ap (andThen (carriedOn (checkedOf g rs i) true)) (same e)
+      go false e = own-idle (checkedOf g rs i) own ownAt
 
 -- ---- what is carried
 
 pub record Held (g : Committed) (rs : List PhoneRecord) (i : ℕ) (s : Seen) : Type 0 where
-  pub answer : s .answer ≡ answerTo g rs i
+  pub answer : s .answer ≡ checkedOf g rs i
   pub room : length (s .earlier) ≡ mostRecords
   pub count : s .count ≡ min i mostRecords
   pub earlier : earlierOf s ≡ take (min i mostRecords) rs
 
 pub held-none : (g : Committed) (rs : List PhoneRecord) → Held g rs 0 (startOf g)
-unfolding answerTo listOk firstBreaker every
+unfolding checkedOf listOk firstBreaker every
 held-none g rs = record { answer = refl; room = length-replicate mostRecords noRecord; count = refl; earlier = refl }
 
 module _ {g : Committed} {rs : List PhoneRecord} {i : ℕ} {s : Seen} (u : Held g rs i s) where
   pub held-all : i ≡ length rs → s .answer ≡ checkOf rs g
-  held-all h = u .answer ∙ ap (answerTo g rs) h
+  held-all h = u .answer ∙ ap (checkedOf g rs) h
 
   -- where there is room, the records that were seen are all that stand before
   module _ (h : i < mostRecords) where
@@ -100,7 +100,7 @@ module _ {g : Committed} {rs : List PhoneRecord} {i : ℕ} {s : Seen} (u : Held 
 
   fits-same : fitsOn (s .count) (recordAt rs i) ≡ fitsOn i (recordAt rs i)
   unfolding fitsOn
-  fits-same = ap (λ (b : Bool). b && inRange (recordAt rs i)) (⊎-elim below above (lt-or-le i mostRecords))
+  fits-same = ap (λ (b : Bool). b && recordInRange (recordAt rs i)) (⊎-elim below above (lt-or-le i mostRecords))
     where
       below : i < mostRecords → ltb (s .count) mostRecords ≡ ltb i mostRecords
       below h = ap (λ (n : ℕ). ltb n mostRecords) (counted h)
@@ -111,15 +111,15 @@ module _ {g : Committed} {rs : List PhoneRecord} {i : ℕ} {s : Seen} (u : Held 
   own-same : fitsOn i (recordAt rs i) ≡ true → ownAnswer (entriesOf g) s (recordAt rs i) ≡ ownAt g rs i
   unfolding fitsOn
   own-same f =
-      let h : i < mostRecords = ltb-true i mostRecords (and-left _ (inRange (recordAt rs i)) f) in
+      let h : i < mostRecords = ltb-true i mostRecords (and-left _ (recordInRange (recordAt rs i)) f) in
       ap (λ (es : List PhoneRecord). cond (obeys (entriesOf g) es (recordAt rs i)) Accepted (Breaks (s .count))) (all-seen h)
       ∙ ap (λ (n : ℕ). cond (obeysAt (entriesOf g) rs i) Accepted (Breaks n)) (counted h)
 
-  next-is : nextAnswer (entriesOf g) s (recordAt rs i) ≡ answerTo g rs (suc i)
+  next-is : nextAnswer (entriesOf g) s (recordAt rs i) ≡ checkedOf g rs (suc i)
   unfolding nextAnswer
   next-is =
       ap (λ (a : Checked). andThen (carriedOn a (fitsOn (s .count) (recordAt rs i))) (ownAnswer (entriesOf g) s (recordAt rs i))) (u .answer)
-      ∙ ap (λ (f : Bool). andThen (carriedOn (answerTo g rs i) f) (ownAnswer (entriesOf g) s (recordAt rs i))) fits-same
+      ∙ ap (λ (f : Bool). andThen (carriedOn (checkedOf g rs i) f) (ownAnswer (entriesOf g) s (recordAt rs i))) fits-same
       ∙ answer-next g rs i (ownAnswer (entriesOf g) s (recordAt rs i)) own-same
 
   -- one record more

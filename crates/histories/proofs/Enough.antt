@@ -16,7 +16,7 @@ use Rattle.histories.specs.declared.Checked.the-variants.{Refused}
 use Rattle.histories.specs.declared.Seen.{Seen}
 use Rattle.histories.specs.Committed.{Committed, entriesOf, couldHold}
 use Rattle.histories.specs.Rules.{noRecord}
-use Rattle.histories.specs.Checking.{mostRecords, recordAt, listOk, answerTo, checkOf}
+use Rattle.histories.specs.Checking.{mostRecords, recordAt, listOk, checkedOf, checkOf}
 use Rattle.histories.specs.Walking.{startOf, lookedAt}
 use Rattle.histories.proofs.Carrying.{Held, held-none, held-more, held-all}
 
@@ -40,7 +40,7 @@ module _ {g : Committed} {rs : List PhoneRecord} {n i : ℕ} {s : Seen} (u : Upt
 
 -- a list too long is refused, unless its log is
 too-long : (rs : List PhoneRecord) (g : Committed) → mostRecords < length rs → checkOf rs g ≡ cond (couldHold g) (Refused OutOfRange) (Refused IllFormed)
-unfolding answerTo listOk
+unfolding checkedOf listOk
 too-long rs g h = rw (lt-leb (length rs) mostRecords h)
 
 -- the first 257 of a list are checked like the list

@@ -16,7 +16,7 @@ use Rattle.log.specs.Entries.{zeroEntry, entryAt, appliedTime}
 use Rattle.log.specs.Logs.{logLimit, live}
 use Rattle.log.specs.Ranges.{FitsEntry}
 use Rattle.log.proofs.Live.{entryAt-slot}
-use Rattle.log.proofs.Orderly.{Orderly}
+use Rattle.log.proofs.Orderly.{Orderly, orderly, in-order}
 use Rattle.log.proofs.Tidy.{logOf, tidy-logOf, tidy-length}
 use Rattle.mail.specs.Mails.{zeroMail}
 use Rattle.mail.proofs.Kept.{zero-good}
@@ -31,16 +31,7 @@ use Rattle.cluster.proofs.Fresh.{good-fresh, fits-fresh}
 use Rattle.cluster.proofs.Good.{ServerGood, Good, good, well-formed}
 use Rattle.histories.specs.Committed.{Committed, entriesOf}
 use Rattle.histories.proofs.Lent.{length-together}
-use Rattle.histories.proofs.Obeying.{Together, LogFits}
-
--- a counted server of a well-formed record holds the entries
-pub record HeldBy (es : List Entry) : Type 0 where
-  pub cluster : Cluster
-  pub fits : Fits cluster
-  pub well-formed : wellFormed cluster ≡ true
-  pub server : ℕ
-  pub counted : server < cluster .count
-  pub same : live (serverAt cluster server .log) ≡ es
+use Rattle.histories.specs.Obeying.{Together, LogFits, HeldBy}
 
 -- ---- a record that holds them
 
@@ -133,7 +124,7 @@ orderly-up h o =
 
 module _ (g : Committed) where
   pub log-held : LogFits g → ((n : ℕ) → FitsEntry (entryAt (entriesOf g) n)) → HeldBy (entriesOf g)
-  log-held f e = held (entriesOf g) (omega (arith, length-together g (f .together), f .short)) (f .order) e
+  log-held f e = held (entriesOf g) (omega (arith, length-together g (f .together), f .short)) (orderly (f .order)) e
 
   pub held-log : Together g → HeldBy (entriesOf g) → LogFits g
   held-log t h =
@@ -143,5 +134,5 @@ module _ (g : Committed) where
       record {
         together = t;
         short = omega (arith, length-together g t, ap length (h .same), tidy-length (s .log .tidy), s .log .tidy .short);
-        order = subst (Orderly limit) (h .same) (orderly-up (h .fits .each (h .server) small .head .term) (s .log .order));
+        order = in-order (subst (Orderly limit) (h .same) (orderly-up (h .fits .each (h .server) small .head .term) (s .log .order)));
       }

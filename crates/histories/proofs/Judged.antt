@@ -19,12 +19,11 @@ use Rattle.clock.proofs.Order.{sameTime-eq, sameTime-refl}
 use Rattle.log.specs.declared.Entry.{Entry}
 use Rattle.log.specs.Entries.{entryAt}
 use Rattle.log.specs.Order.{highestKey}
-use Rattle.log.proofs.Orderly.{orderly, in-order}
 use Rattle.histories.specs.declared.PhoneRecord.{PhoneRecord}
-use Rattle.histories.specs.Committed.{Committed, committedLimit, together, couldHold}
-use Rattle.histories.specs.Rules.{writeKind, readKind, noRecord, inRange, sameWrite, writeObeys, lastWhere, knownTime, readable, valueAt, notBefore, keepsOrder, readObeys, obeys}
+use Rattle.histories.specs.Committed.{Committed, committedLimit, sameLengths, couldHold}
+use Rattle.histories.specs.Rules.{writeKind, readKind, noRecord, recordInRange, sameWrite, writeObeys, lastWhere, knownTime, readable, valueAt, notBefore, keepsOrder, readObeys, obeys}
 use Rattle.histories.specs.Checking.{mostRecords, recordAt, obeysAt, listOk}
-use Rattle.histories.proofs.Obeying.{Stands, WriteObeys, SomeEntry, Readable, LastFor, NoneFor, ReadObeys, Obeys, LogFits, InRange, ListFits}
+use Rattle.histories.specs.Obeying.{Stands, WriteObeys, SomeEntry, Readable, LastReadable, NoValueFor, ReadObeys, Obeys, LogFits, InRange, ListFits}
 
 -- ---- a write
 
@@ -109,11 +108,11 @@ module _ (es : List Entry) (k : ℕ) (t : Time) where
   abbrev lastAt : ℕ
   lastAt = lastWhere (readable k t) es
 
-  value-found : LastFor es k t (valueAt es k t) ⊎ NoneFor es k t (valueAt es k t)
+  value-found : LastReadable es k t (valueAt es k t) ⊎ NoValueFor es k t (valueAt es k t)
   unfolding valueAt entryAt
   value-found = ⊎-elim none last (lt-or-le lastAt 1)
     where
-      last : 1 ≤ lastAt → LastFor es k t (valueAt es k t) ⊎ NoneFor es k t (valueAt es k t)
+      last : 1 ≤ lastAt → LastReadable es k t (valueAt es k t) ⊎ NoValueFor es k t (valueAt es k t)
       last h =
           inl
           (record {
@@ -124,7 +123,7 @@ module _ (es : List Entry) (k : ℕ) (t : Time) where
             value = refl;
           })
 
-      none : lastAt < 1 → LastFor es k t (valueAt es k t) ⊎ NoneFor es k t (valueAt es k t)
+      none : lastAt < 1 → LastReadable es k t (valueAt es k t) ⊎ NoValueFor es k t (valueAt es k t)
       none h =
           let z : lastAt ≡ 0 = omega arith in
           inr
@@ -134,11 +133,11 @@ module _ (es : List Entry) (k : ℕ) (t : Time) where
           })
 
   -- it is the only one
-  value-only : (v : ℕ) → LastFor es k t v ⊎ NoneFor es k t v → valueAt es k t ≡ v
+  value-only : (v : ℕ) → LastReadable es k t v ⊎ NoValueFor es k t v → valueAt es k t ≡ v
   value-only v = ⊎-elim (λ l. ⊎-elim (same l) (λ n. absurd (n .none (l .place) (l .stands) (l .readable))) value-found)
       (λ n. ⊎-elim (λ l. absurd (n .none (l .place) (l .stands) (l .readable))) (λ m. m .zero ∙ sym (n .zero)) value-found)
     where
-      same : LastFor es k t v → LastFor es k t (valueAt es k t) → valueAt es k t ≡ v
+      same : LastReadable es k t v → LastReadable es k t (valueAt es k t) → valueAt es k t ≡ v
       same a b =
           ⊎-elim (λ l. absurd (a .none-later (b .place) l (b .stands .within) (b .readable)))
           (λ l. ⊎-elim (λ m. absurd (b .none-later (a .place) m (a .stands .within) (a .readable)))
@@ -185,7 +184,7 @@ module _ (es : List Entry) (rs : List PhoneRecord) (i : ℕ) (h : i ≤ length r
       let v = eqb-true (valueAt es (now .key) (now .time)) (now .value) (and-left _ _ k2) in
       record {
         time = known-time es (now .time) (and-left _ _ k);
-        value = subst (λ (x : ℕ). LastFor es (now .key) (now .time) x ⊎ NoneFor es (now .key) (now .time) x) v (value-found es (now .key) (now .time));
+        value = subst (λ (x : ℕ). LastReadable es (now .key) (now .time) x ⊎ NoValueFor es (now .key) (now .time) x) v (value-found es (now .key) (now .time));
         order = keeps-order rs i h (and-right (eqb (valueAt es (now .key) (now .time)) (now .value)) _ k2);
       }
 
@@ -220,12 +219,12 @@ module _ (g : Committed) where
   entries = length (g .terms)
 
   pub log-fits : couldHold g ≡ true → LogFits g
-  unfolding couldHold together
+  unfolding couldHold sameLengths
   log-fits h =
-      let t = and-left (together g) _ h in
+      let t = and-left (sameLengths g) _ h in
       let t2 = and-right (eqb (length (g .keys)) entries) _ t in
       let t3 = and-right (eqb (length (g .values)) entries) _ t2 in
-      let h2 = and-right (together g) _ h in
+      let h2 = and-right (sameLengths g) _ h in
       record {
         together =
             record {
@@ -235,30 +234,30 @@ module _ (g : Committed) where
               ls = eqb-true (length (g .ls)) entries (and-right (eqb (length (g .ps)) entries) _ t3);
             };
         short = leb-true entries committedLimit (and-left _ _ h2);
-        order = orderly (and-right (leb entries committedLimit) _ h2);
+        order = and-right (leb entries committedLimit) _ h2;
       }
 
   pub fits-log : LogFits g → couldHold g ≡ true
-  unfolding couldHold together
+  unfolding couldHold sameLengths
   fits-log f =
       let t = f .together in
       and-both _ _
       (and-both _ _ (eq-eqb (length (g .keys)) entries (t .keys))
       (and-both _ _ (eq-eqb (length (g .values)) entries (t .values)) (and-both _ _ (eq-eqb (length (g .ps)) entries (t .ps)) (eq-eqb (length (g .ls)) entries (t .ls)))))
-      (and-both _ _ (le-leb entries committedLimit (f .short)) (in-order (f .order)))
+      (and-both _ _ (le-leb entries committedLimit (f .short)) (f .order))
 
 -- ---- the list
 
-in-range : (r : PhoneRecord) → inRange r ≡ true → InRange r
-unfolding inRange
+in-range : (r : PhoneRecord) → recordInRange r ≡ true → InRange r
+unfolding recordInRange
 in-range r h =
     record {
       kind = ⊎-elim (λ e. inl (eqb-true (r .kind) writeKind e)) (λ e. inr (eqb-true (r .kind) readKind e)) (or-cases (eqb (r .kind) writeKind) _ (and-right (leb (r .key) highestKey) _ h));
       key = leb-true (r .key) highestKey (and-left _ _ h);
     }
 
-range-in : (r : PhoneRecord) → InRange r → inRange r ≡ true
-unfolding inRange
+range-in : (r : PhoneRecord) → InRange r → recordInRange r ≡ true
+unfolding recordInRange
 range-in r f =
     and-both _ _ (le-leb (r .key) highestKey (f .key))
     (⊎-elim (λ e. or-left _ _ (eq-eqb (r .kind) writeKind e)) (λ e. or-right (eqb (r .kind) writeKind) _ (eq-eqb (r .kind) readKind e)) (f .kind))

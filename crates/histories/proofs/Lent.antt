@@ -8,14 +8,14 @@ use lib.ListN.{length, getD}
 use Rattle.log.specs.declared.Entry.{Entry}
 use Rattle.log.specs.Entries.{zeroEntry, entryAt}
 use Rattle.log.proofs.Live.{entryAt-suc}
-use Rattle.histories.proofs.Obeying.{Together}
-use Rattle.histories.specs.Committed.{Committed, joined, entriesOf}
+use Rattle.histories.specs.Obeying.{Together}
+use Rattle.histories.specs.Committed.{Committed, entriesOn, entriesOf}
 
 min-suc : (a b : ℕ) → suc (min a b) ≡ min (suc a) (suc b)
 min-suc a b = omega arith
 
-pub length-joined : (ts ks vs ps ls : List ℕ) → length (joined ts ks vs ps ls) ≡ min (min (min (min (length ts) (length ks)) (length vs)) (length ps)) (length ls)
-unfolding joined
+pub length-joined : (ts ks vs ps ls : List ℕ) → length (entriesOn ts ks vs ps ls) ≡ min (min (min (min (length ts) (length ks)) (length vs)) (length ps)) (length ls)
+unfolding entriesOn
 length-joined [] ks vs ps ls = omega arith
 length-joined (t ∷ ts) [] vs ps ls = omega arith
 length-joined (t ∷ ts) (k ∷ ks) [] ps ls = omega arith
@@ -44,8 +44,8 @@ abbrev slotAt : List ℕ → List ℕ → List ℕ → List ℕ → List ℕ →
 slotAt ts ks vs ps ls i =
     record { term = getD ts i 0; key = getD ks i 0; value = getD vs i 0; time = record { p = getD ps i 0; l = getD ls i 0 } }
 
-joined-at : (ts ks vs ps ls : List ℕ) (i : ℕ) → i < length (joined ts ks vs ps ls) → slotAt ts ks vs ps ls i ≡ getD (joined ts ks vs ps ls) i zeroEntry
-unfolding joined
+joined-at : (ts ks vs ps ls : List ℕ) (i : ℕ) → i < length (entriesOn ts ks vs ps ls) → slotAt ts ks vs ps ls i ≡ getD (entriesOn ts ks vs ps ls) i zeroEntry
+unfolding entriesOn
 joined-at [] ks vs ps ls i h = absurd (not-suc-le-zero h)
 joined-at (t ∷ ts) [] vs ps ls i h = absurd (not-suc-le-zero h)
 joined-at (t ∷ ts) (k ∷ ks) [] ps ls i h = absurd (not-suc-le-zero h)

@@ -18,7 +18,7 @@ use Rattle.histories.specs.declared.Checked.the-variants.{Accepted, Brea
 use Rattle.histories.specs.declared.why.Reason.the-variants.{NoSuchPosition, OtherEntry, NoSuchTime, OtherValue, TooEarly}
 use Rattle.histories.specs.Committed.{Committed, entriesOf, couldHold}
 use Rattle.histories.specs.Rules.{writeKind, writeObeys, knownTime, valueAt, readObeys, obeys}
-use Rattle.histories.specs.Checking.{recordAt, obeysAt, firstBreaker, listOk, answerTo, checkOf}
+use Rattle.histories.specs.Checking.{recordAt, obeysAt, firstBreaker, listOk, checkedOf, checkOf}
 use Rattle.histories.specs.Reasons.{hasPosition, whyWrite, whyRead, whyOf, Because}
 use Rattle.histories.proofs.Breakers.{Found, breaker-found}
 
@@ -62,7 +62,7 @@ module _ (g : Committed) (rs : List PhoneRecord) (n : ℕ) where
   breaks (Refused x) f e = absurd f
 
   named-breaks : checkOf rs g ≡ Breaks n → obeysAt (entriesOf g) rs n ≡ false
-  unfolding answerTo
+  unfolding checkedOf
   named-breaks h = go (couldHold g) (listOk rs (length rs)) h
     where
       go : (a b : Bool) → cond a (cond b (firstBreaker (length rs) (obeysAt (entriesOf g) rs)) (Refused OutOfRange)) (Refused IllFormed) ≡ Breaks n

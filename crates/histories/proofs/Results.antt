@@ -18,7 +18,7 @@ use Rattle.base.proofs.Results.{OneResult, one-result}
 use Rattle.histories.specs.declared.PhoneRecord.{PhoneRecord}
 use Rattle.histories.specs.declared.Checked.{Checked}
 use Rattle.histories.specs.Committed.{lent, entriesOf}
-use Rattle.histories.specs.Rules.{inRange, notBefore}
+use Rattle.histories.specs.Rules.{recordInRange, notBefore}
 use Rattle.histories.specs.Reasons.{whyOf}
 use Rattle.histories.specs.Checking.{checkOf}
 use Rattle.histories.proofs.check as the-check
@@ -28,7 +28,7 @@ use Rattle.histories.proofs.kept.check_first.Reads as check-first-reads
 use Rattle.histories.proofs.why.why.Reads as why-reads
 
 pub in-range : (r : PhoneRecord) → OneResult (λ x. in-range-reads.Learnt tt (r, tt) x (r, tt))
-in-range r = one-result (inRange r)
+in-range r = one-result (recordInRange r)
 
 pub not-before : (e r : PhoneRecord) → OneResult (λ x. not-before-reads.Learnt tt (e, (r, tt)) x (e, (r, tt)))
 not-before e r = one-result (notBefore e r)

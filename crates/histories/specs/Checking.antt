@@ -13,7 +13,7 @@ use Rattle.histories.specs.declared.PhoneRecord.{PhoneRecord}
 use Rattle.histories.specs.declared.Checked.{Checked}
 use Rattle.histories.specs.declared.Checked.the-variants.{Accepted, Breaks, Refused}
 use Rattle.histories.specs.Committed.{Committed, entriesOf, couldHold}
-use Rattle.histories.specs.Rules.{noRecord, inRange, obeys}
+use Rattle.histories.specs.Rules.{noRecord, recordInRange, obeys}
 
 -- a list has at most 256 records
 abbrev pub mostRecords : ℕ
@@ -39,12 +39,12 @@ firstBreaker (suc n) p = andThen (firstBreaker n p) (cond (p n) Accepted (Breaks
 
 -- the first n records are not too many, and each is in range
 unfoldable pub listOk : List PhoneRecord → ℕ → Bool
-listOk rs n = leb n mostRecords && every n (λ i. inRange (recordAt rs i))
+listOk rs n = leb n mostRecords && every n (λ i. recordInRange (recordAt rs i))
 
 -- the answer for the first n records: the first refusal that applies, else the first record that breaks a rule
-unfoldable pub answerTo : Committed → List PhoneRecord → ℕ → Checked
-answerTo g rs n =
+unfoldable pub checkedOf : Committed → List PhoneRecord → ℕ → Checked
+checkedOf g rs n =
     decided Refused (firstBreaker n (obeysAt (entriesOf g) rs)) ((couldHold g, IllFormed) ∷ (listOk rs n, OutOfRange) ∷ [])
 
 abbrev pub checkOf : List PhoneRecord → Committed → Checked
-checkOf rs g = answerTo g rs (length rs)
+checkOf rs g = checkedOf g rs (length rs)

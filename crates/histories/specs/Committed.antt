@@ -25,25 +25,25 @@ abbrev pub lent : List ℕ → List ℕ → List ℕ → List ℕ → List ℕ �
 lent terms keys values ps ls = record { terms = terms; keys = keys; values = values; ps = ps; ls = ls }
 
 -- one entry for each place that all five lists have
-unfoldable pub joined : List ℕ → List ℕ → List ℕ → List ℕ → List ℕ → List Entry
-joined [] ks vs ps ls = []
-joined (t ∷ ts) [] vs ps ls = []
-joined (t ∷ ts) (k ∷ ks) [] ps ls = []
-joined (t ∷ ts) (k ∷ ks) (v ∷ vs) [] ls = []
-joined (t ∷ ts) (k ∷ ks) (v ∷ vs) (p ∷ ps) [] = []
-joined (t ∷ ts) (k ∷ ks) (v ∷ vs) (p ∷ ps) (l ∷ ls) =
-    record { term = t; key = k; value = v; time = record { p = p; l = l } } ∷ joined ts ks vs ps ls
+unfoldable pub entriesOn : List ℕ → List ℕ → List ℕ → List ℕ → List ℕ → List Entry
+entriesOn [] ks vs ps ls = []
+entriesOn (t ∷ ts) [] vs ps ls = []
+entriesOn (t ∷ ts) (k ∷ ks) [] ps ls = []
+entriesOn (t ∷ ts) (k ∷ ks) (v ∷ vs) [] ls = []
+entriesOn (t ∷ ts) (k ∷ ks) (v ∷ vs) (p ∷ ps) [] = []
+entriesOn (t ∷ ts) (k ∷ ks) (v ∷ vs) (p ∷ ps) (l ∷ ls) =
+    record { term = t; key = k; value = v; time = record { p = p; l = l } } ∷ entriesOn ts ks vs ps ls
 
 abbrev pub entriesOf : Committed → List Entry
-entriesOf g = joined (g .terms) (g .keys) (g .values) (g .ps) (g .ls)
+entriesOf g = entriesOn (g .terms) (g .keys) (g .values) (g .ps) (g .ls)
 
 -- the five lists are of one length
-unfoldable pub together : Committed → Bool
-together g =
+unfoldable pub sameLengths : Committed → Bool
+sameLengths g =
     eqb (length (g .keys)) (length (g .terms))
     && (eqb (length (g .values)) (length (g .terms))
     && (eqb (length (g .ps)) (length (g .terms)) && eqb (length (g .ls)) (length (g .terms))))
 
 -- a well-formed record could hold the log: not too long, and every entry may stand in its place at a server of some term
 unfoldable pub couldHold : Committed → Bool
-couldHold g = together g && (leb (length (g .terms)) committedLimit && inOrder limit (entriesOf g))
+couldHold g = sameLengths g && (leb (length (g .terms)) committedLimit && inOrder limit (entriesOf g))

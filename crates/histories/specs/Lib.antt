@@ -5,3 +5,4 @@ pub mod Reasons
 pub mod Checking
 pub mod Walking
 pub mod Longest
+pub mod Obeying

@@ -23,8 +23,8 @@ abbrev pub noRecord : PhoneRecord
 noRecord = record { session = 0; kind = 0; key = 0; value = 0; position = 0; time = zeroTime }
 
 -- a record is of kind 6 or 11, and its key is not above 15
-unfoldable pub inRange : PhoneRecord → Bool
-inRange r = leb (r .key) highestKey && (eqb (r .kind) writeKind || eqb (r .kind) readKind)
+unfoldable pub recordInRange : PhoneRecord → Bool
+recordInRange r = leb (r .key) highestKey && (eqb (r .kind) writeKind || eqb (r .kind) readKind)
 
 -- the entry has the record's key, value and time
 unfoldable pub sameWrite : Entry → PhoneRecord → Bool

@@ -11,7 +11,7 @@ use Rattle.histories.specs.declared.Checked.{Checked}
 use Rattle.histories.specs.declared.Checked.the-variants.{Accepted, Breaks, Refused}
 use Rattle.histories.specs.declared.Seen.{Seen}
 use Rattle.histories.specs.Committed.{Committed, couldHold}
-use Rattle.histories.specs.Rules.{noRecord, inRange, obeys}
+use Rattle.histories.specs.Rules.{noRecord, recordInRange, obeys}
 use Rattle.histories.specs.Checking.{mostRecords, andThen}
 
 -- the records that were seen
@@ -25,7 +25,7 @@ startOf g =
 
 -- one record more still makes a list that is in range, where there are n before it
 unfoldable pub fitsOn : ℕ → PhoneRecord → Bool
-fitsOn n r = ltb n mostRecords && inRange r
+fitsOn n r = ltb n mostRecords && recordInRange r
 
 -- an answer after one record more that itself breaks no rule: a refusal stays, and a list that isn't in range is refused
 abbrev pub carriedOn : Checked → Bool → Checked

@@ -5,7 +5,7 @@ ghost use lib.ListN.{length};
 ghost use Rattle.log.specs.Entries.{entryAt};
 ghost use Rattle.log.specs.Order.{inOrder};
 ghost use Rattle.clock.specs.Times.{limit};
-ghost use Rattle.histories.specs.Committed.{lent, entriesOf, together, couldHold};
+ghost use Rattle.histories.specs.Committed.{lent, entriesOf, sameLengths, couldHold};
 ghost use Rattle.histories.specs.Rules.{knownTime, readable, valueAt};
 use clock::Time;
 use log::Entry;
@@ -49,7 +49,7 @@ pub(crate) fn entry_at(
 
 // Whether the five slices are of one length.
 fn together(terms: &[u16], keys: &[u8], values: &[u16], ps: &[u16], ls: &[u16]) -> bool
-    ensures { λ r. ⌜ r ≡ together (lent (now (terms .entry)) (now (keys .entry)) (now (values .entry)) (now (ps .entry)) (now (ls .entry))) ⌝ }
+    ensures { λ r. ⌜ r ≡ sameLengths (lent (now (terms .entry)) (now (keys .entry)) (now (values .entry)) (now (ps .entry)) (now (ls .entry))) ⌝ }
 {
     let n = terms.len();
     if keys.len() != n {

@@ -1,7 +1,7 @@
 // 02's rules for one record of a phone.
 ghost use mathlib.Core.Path.{_≡_};
 ghost use Rattle.histories.specs.Committed.{lent, entriesOf};
-ghost use Rattle.histories.specs.Rules.{inRange, sameWrite, writeObeys, notBefore, keepsOrder, readObeys, obeys};
+ghost use Rattle.histories.specs.Rules.{recordInRange, sameWrite, writeObeys, notBefore, keepsOrder, readObeys, obeys};
 ghost use Rattle.histories.specs.Walking.{earlierOf};
 use crate::PhoneRecord;
 use crate::Seen;
@@ -10,7 +10,7 @@ use log::Entry;
 
 // Whether a record is of one of the two kinds, and its key is not above 15.
 pub fn in_range(r: PhoneRecord) -> bool
-    ensures { λ q. ⌜ q ≡ inRange r ⌝ }
+    ensures { λ q. ⌜ q ≡ recordInRange r ⌝ }
 {
     if log::HIGHEST_KEY < r.key {
         return false;

@@ -28,11 +28,11 @@ use Rattle.safety.specs.Promise.{runOf, StepsFrom}
 use Rattle.safety.proofs.Example.{build, moment}
 use Rattle.histories.specs.declared.PhoneRecord.{PhoneRecord}
 use Rattle.histories.specs.declared.Checked.the-variants.{Accepted, Breaks}
-use Rattle.histories.specs.Committed.{Committed, lent, joined, entriesOf, together, couldHold}
-use Rattle.histories.specs.Rules.{inRange, sameWrite, writeObeys, knownTime, readable, valueAt, notBefore, keepsOrder, readObeys, obeys}
-use Rattle.histories.specs.Checking.{firstBreaker, listOk, answerTo, checkOf}
+use Rattle.histories.specs.Committed.{Committed, lent, entriesOn, entriesOf, sameLengths, couldHold}
+use Rattle.histories.specs.Rules.{recordInRange, sameWrite, writeObeys, knownTime, readable, valueAt, notBefore, keepsOrder, readObeys, obeys}
+use Rattle.histories.specs.Checking.{firstBreaker, listOk, checkedOf, checkOf}
 use Rattle.histories.specs.Longest.{longestUpto}
-use Rattle.honest.specs.Promise.{Written, Made, ends, goes, writes, reads, acknowledges, writeRecord, readRecord, AsksLatest, longest, HoldsAll}
+use Rattle.honest.specs.Promise.{AnsweredWrite, Made, ends, goes, writes, reads, acknowledges, recordOfWrite, recordOfRead, AsksLatest, longestCovered, HoldsAll}
 use Rattle.honest.proofs.Promise.{honest-phone}
 
 abbrev at : ℕ → Time
@@ -65,18 +65,18 @@ end = runOf (freshCluster 3) steps
 -- ---- the records
 
 -- the writes that are answered: builds 41, 40 and 42
-abbrev w41 : Written
+abbrev w41 : AnsweredWrite
 w41 = record { key = 5; value = 41; position = 1; term = 1; time = at 0 }
 
-abbrev w40 : Written
+abbrev pub w40 : AnsweredWrite
 w40 = record { key = 5; value = 40; position = 2; term = 1; time = at 1 }
 
-abbrev w42 : Written
+abbrev w42 : AnsweredWrite
 w42 = record { key = 5; value = 42; position = 2; term = 2; time = at 1 }
 
 -- phone 1 has both acknowledged writes, phone 2 reads 41 and later 42, and phone 3 reads nothing at server 2
 abbrev pub records : List PhoneRecord
-records = writeRecord 1 w41 ∷ readRecord 2 5 41 0 (at 0) ∷ writeRecord 1 w42 ∷ readRecord 3 5 0 0 zeroTime ∷ readRecord 2 5 42 0 (at 1) ∷ []
+records = recordOfWrite 1 w41 ∷ recordOfRead 2 5 41 0 (at 0) ∷ recordOfWrite 1 w42 ∷ recordOfRead 3 5 0 0 zeroTime ∷ recordOfRead 2 5 42 0 (at 1) ∷ []
 
 -- the committed log, with an entry that nobody covered at its end
 abbrev pub committed : Committed
@@ -93,16 +93,16 @@ pub not-acknowledged : stepOf (runOf (freshCluster 3) (first ++ (Writes 0 5 40 z
 unfolding end
 not-acknowledged = refl
 
-pub longest-is : longest 3 steps ≡ build 1 41 0 ∷ build 2 42 1 ∷ []
+pub longest-is : longestCovered 3 steps ≡ build 1 41 0 ∷ build 2 42 1 ∷ []
 unfolding end longestUpto
 longest-is = refl
 
 pub checked : checkOf records committed ≡ Accepted
-unfolding end joined together couldHold inRange sameWrite writeObeys knownTime readable valueAt notBefore keepsOrder readObeys obeys firstBreaker listOk answerTo
+unfolding end entriesOn sameLengths couldHold recordInRange sameWrite writeObeys knownTime readable valueAt notBefore keepsOrder readObeys obeys firstBreaker listOk checkedOf
 checked = refl
 
 -- build 40 was never acknowledged: a phone that logged it is named
-pub named : checkOf (records ++ (writeRecord 3 w40 ∷ [])) committed ≡ Breaks 5
+pub named : checkOf (records ++ (recordOfWrite 3 w40 ∷ [])) committed ≡ Breaks 5
 unfolding checked
 named = refl
 
@@ -180,7 +180,7 @@ some-time zero one l e = omega arith
 some-time (suc i) one l e =
     omega (arith, case-at (λ i. 1 ≤ entryAt (entriesOf committed) (suc i) .time .p) 3 (omega arith) i l, ap (λ (t : Time). t .p) e)
 
-holds-all : HoldsAll (longest 3 steps) committed
+holds-all : HoldsAll (longestCovered 3 steps) committed
 unfolding longest-is checked
 holds-all = record { could-hold = refl; begins = refl; none-at-zero = some-time }
 

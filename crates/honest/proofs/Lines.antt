@@ -1,4 +1,4 @@
--- An honest phone is never accused, over the lines of a text: lines are steps, and a line that is none leaves the longest beginning as it is.
+-- An honest phone is never accused, over the lines of a text: lines are steps, and a line that is none leaves the longestCovered beginning as it is.
 -- Assumes nothing.
 use mathlib.Core.Path.{_≡_, refl, ap, _∙_, subst}
 use mathlib.Core.List.{List, [], _∷_}
@@ -13,9 +13,9 @@ use Rattle.frames.specs.Steps.{readStep}
 use Rattle.replay.specs.Texts.{respond, answerTo, recordsOn}
 use Rattle.histories.specs.Longest.{longerOf, longestOf}
 use Rattle.demand3.specs.Promise.{Line, Stretch}
-use Rattle.demand3.specs.Lines.{joined, stepsIn}
+use Rattle.demand3.specs.Lines.{withStep, stepsIn}
 use Rattle.demand3.proofs.Stretches.{begun, steps-until}
-use Rattle.honest.specs.Promise.{Made, recordsOf, longest, HoldsAll}
+use Rattle.honest.specs.Promise.{Made, recordsOf, longestCovered, HoldsAll}
 use Rattle.honest.specs.Lines.{longestIn, HonestInTexts}
 use Rattle.honest.proofs.Folds.{longer-again}
 use Rattle.honest.proofs.Promise.{honest-phone}
@@ -31,12 +31,12 @@ same-longest es c [] = refl
 same-longest es c (l ∷ ls) = go (readStep l) (λ d. same-longest (longerOf es c) d ls)
   where
     go : (r : ReadStep) → ((d : Cluster) → longestOf (longerOf es c) (recordsOn d ls) ≡ longestOf (longerOf es c) (recordsOf d (stepsIn ls)))
-        → longestOf (longerOf es c) (recordsOn (respond c r .cluster) ls) ≡ longestOf es (recordsOf c (joined r (stepsIn ls)))
+        → longestOf (longerOf es c) (recordsOn (respond c r .cluster) ls) ≡ longestOf es (recordsOf c (withStep r (stepsIn ls)))
     go (R.Step s) more = more (stepOf c s .cluster)
     go R.NoFrame more = more c ∙ counts-once es c (stepsIn ls)
 
--- the longest beginning of a stretch is that of its steps
-pub longest-is : {text : List ℕ} (t : Stretch text) → longestIn t ≡ longest (t .count) (stepsIn (t .until))
+-- the longestCovered beginning of a stretch is that of its steps
+pub longest-is : {text : List ℕ} (t : Stretch text) → longestIn t ≡ longestCovered (t .count) (stepsIn (t .until))
 longest-is t = same-longest [] _ (t .until) ∙ ap (λ (c : Cluster). longestOf [] (recordsOf c (stepsIn (t .until)))) (begun t .is)
 
 pub honest-text : HonestInTexts

@@ -1,4 +1,4 @@
--- There is a longest beginning in every run: covered beginnings are comparable, and the fold finds the longest.
+-- There is a longestCovered beginning in every run: covered beginnings are comparable, and the fold finds the longestCovered.
 -- Assumes nothing.
 use mathlib.Core.Path.{_≡_, refl, ap}
 use mathlib.Core.Bool.{true}
@@ -18,7 +18,7 @@ use Rattle.safety.specs.Promise.{StepsFrom}
 use Rattle.safety.proofs.Views.{fresh-seen}
 use Rattle.safety.proofs.Stepped.{Now}
 use Rattle.safety.proofs.Promise as P
-use Rattle.honest.specs.Promise.{recordsOf, longest, CoveredIn, HoldsAll, LongestPromised}
+use Rattle.honest.specs.Promise.{recordsOf, longestCovered, CoveredIn, HoldsAll, LongestPromised}
 use Rattle.honest.proofs.Folds.{none-longer, is-one}
 use Rattle.honest.proofs.Moments.{since, in-turn, all-counted, comparable}
 use Rattle.honest.proofs.OwnLog.{still-formed, held}
@@ -55,18 +55,18 @@ module _ (n : ℕ) (ss : List Step) (two : fewestServers ≤ n) (seven : n ≤ m
       first [] = List·Memᴰ·head refl
       first (s ∷ ss) = List·Memᴰ·head refl
 
-  covered-once : CoveredIn n ss (longest n ss)
+  covered-once : CoveredIn n ss (longestCovered n ss)
   covered-once =
       is-one (CoveredIn n ss) [] (recordsOf (freshCluster n) ss) nothing
       (λ c m i l. record { moment = c; of-the-run = m; server = i; counted = omega (arith, counted c m); is = refl })
 
-  not-longer : (es : List Entry) → CoveredIn n ss es → length es ≤ length (longest n ss)
+  not-longer : (es : List Entry) → CoveredIn n ss es → length es ≤ length (longestCovered n ss)
   not-longer es a =
       rw (← a .is)
       (none-longer [] (recordsOf (freshCluster n) ss) (a .moment) (a .of-the-run) (a .server) (omega (arith, a .counted, counted (a .moment) (a .of-the-run))))
 
   -- what was covered once holds itself
-  own : HoldsAll (longest n ss) (columnsOf (longest n ss))
+  own : HoldsAll (longestCovered n ss) (columnsOf (longestCovered n ss))
   own =
       let a = covered-once in
       let T = since begun ss h (a .moment) (a .of-the-run) in
@@ -78,6 +78,6 @@ longest-beginning n ss two seven h =
     record {
       comparable = compare n ss two seven h;
       was-covered = covered-once n ss two seven h;
-      begins-with = λ es a. compare n ss two seven h es (longest n ss) a (covered-once n ss two seven h) (not-longer n ss two seven h es a);
+      begins-with = λ es a. compare n ss two seven h es (longestCovered n ss) a (covered-once n ss two seven h) (not-longer n ss two seven h es a);
       own-log = own n ss two seven h;
     }

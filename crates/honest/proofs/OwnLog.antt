@@ -28,7 +28,7 @@ use Rattle.reads.specs.MajorityRead.{covered}
 use Rattle.rules.specs.Rules.{stepOf}
 use Rattle.rules.proofs.Keeps.{step-fits, step-well-formed}
 use Rattle.rules.proofs.Logs.{log-raised}
-use Rattle.histories.specs.Committed.{joined, entriesOf, together, couldHold}
+use Rattle.histories.specs.Committed.{entriesOn, entriesOf, sameLengths, couldHold}
 use Rattle.histories.specs.Longest.{columnsOf}
 use Rattle.safety.specs.Promise.{StepsFrom}
 use Rattle.safety.specs.Time.{stamp}
@@ -56,7 +56,7 @@ still-formed {c} f wf (s ∷ ss) h y m =
 -- ---- columns
 
 columns-same : (es : List Entry) → entriesOf (columnsOf es) ≡ es
-unfolding joined
+unfolding entriesOn
 columns-same [] = refl
 columns-same (e ∷ es) = ap (λ (fs : List Entry). e ∷ fs) (columns-same es)
 
@@ -64,7 +64,7 @@ columns-long : (es : List Entry) (f g : Entry → ℕ) → eqb (length (map f es
 columns-long es f g = eq-eqb _ _ (length-map es f ∙ sym (length-map es g))
 
 columns-hold : (es : List Entry) → length es ≤ logLimit → Orderly limit es → couldHold (columnsOf es) ≡ true
-unfolding couldHold together
+unfolding couldHold sameLengths
 columns-hold es short o =
     let terms : Entry → ℕ = λ e. e .term in
     and-both _ _

@@ -29,10 +29,10 @@ use Rattle.safety.proofs.Stepped.{Now}
 use Rattle.safety.proofs.Promise as P
 use Rattle.histories.specs.declared.PhoneRecord.{PhoneRecord}
 use Rattle.histories.specs.declared.Checked.the-variants.{Accepted, Refused}
-use Rattle.histories.specs.Committed.{Committed, committedLimit, entriesOf, together, couldHold}
-use Rattle.histories.specs.Rules.{noRecord, inRange, obeys}
-use Rattle.histories.specs.Checking.{mostRecords, recordAt, obeysAt, firstBreaker, listOk, answerTo}
-use Rattle.honest.specs.Promise.{Written, Made, ends, goes, writes, reads, acknowledges, recordsOf, longest, HoldsAll, HonestPromised}
+use Rattle.histories.specs.Committed.{Committed, committedLimit, entriesOf, sameLengths, couldHold}
+use Rattle.histories.specs.Rules.{noRecord, recordInRange, obeys}
+use Rattle.histories.specs.Checking.{mostRecords, recordAt, obeysAt, firstBreaker, listOk, checkedOf}
+use Rattle.honest.specs.Promise.{AnsweredWrite, Made, ends, goes, writes, reads, acknowledges, recordsOf, longestCovered, HoldsAll, HonestPromised}
 use Rattle.honest.proofs.Moments.{InTurn, next}
 use Rattle.honest.proofs.Longest.{longest-beginning}
 use Rattle.honest.proofs.ReadRecords.{GoodLog, read-obeys}
@@ -42,15 +42,15 @@ use Rattle.honest.proofs.WriteRecords.{Stood, stood-on, wrote, write-ob
 
 -- each record is in range and obeys, given those before it
 AllObey : List Entry → List PhoneRecord → Type 0
-AllObey es rs = (i : ℕ) → i < length rs → (inRange (recordAt rs i) ≡ true) × (obeysAt es rs i ≡ true)
+AllObey es rs = (i : ℕ) → i < length rs → (recordInRange (recordAt rs i) ≡ true) × (obeysAt es rs i ≡ true)
 
 -- one record more
-obey-more : (es : List Entry) (rs : List PhoneRecord) (r : PhoneRecord) → AllObey es rs → (inRange r ≡ true) × (obeys es rs r ≡ true)
+obey-more : (es : List Entry) (rs : List PhoneRecord) (r : PhoneRecord) → AllObey es rs → (recordInRange r ≡ true) × (obeys es rs r ≡ true)
     → AllObey es (rs ++ (r ∷ []))
 unfolding AllObey
 obey-more es rs r h new i l = go (eq-or-lt-of-le (omega (arith, length-append rs (r ∷ []))))
   where
-    go : (i ≡ length rs) ⊎ (i < length rs) → (inRange (recordAt (rs ++ (r ∷ [])) i) ≡ true) × (obeysAt es (rs ++ (r ∷ [])) i ≡ true)
+    go : (i ≡ length rs) ⊎ (i < length rs) → (recordInRange (recordAt (rs ++ (r ∷ [])) i) ≡ true) × (obeysAt es (rs ++ (r ∷ [])) i ≡ true)
     go (inl e) = rw (e, getD-append-seam rs r [] noRecord, take-append-seam rs (r ∷ [])) new
     go (inr k) = rw (List·getD-append rs (r ∷ []) noRecord i k, take-append-le i rs (r ∷ []) (omega arith)) (h i k)
 
@@ -64,9 +64,9 @@ none-breaks (suc n) p h = rw (none-breaks n p (λ i l. h i (omega arith)), h n (
 
 -- whatever is covered from c on is in es, so whatever is recorded from there on obeys
 module _ {n : ℕ} {some : 0 < n} {es : List Entry} (o : GoodLog es) where
-  made-obey : {c : Cluster} {ss : List Step} {ws : List Written} {rs out : List PhoneRecord} → Made c ss ws rs out → Now n some c → StepsFrom c ss
+  made-obey : {c : Cluster} {ss : List Step} {ws : List AnsweredWrite} {rs out : List PhoneRecord} → Made c ss ws rs out → Now n some c → StepsFrom c ss
       → ((y : Cluster) → Among y (recordsOf c ss) → (i : ℕ) → i < n → Beginning (covered (serverAt y i)) es)
-      → ((w : Written) → Among w ws → Stood n some c w) → AllObey es rs → AllObey es out
+      → ((w : AnsweredWrite) → Among w ws → Stood n some c w) → AllObey es rs → AllObey es out
   made-obey ends N h begins stood obey = obey
   made-obey (goes {ss = ss} s m) N h begins stood obey =
       let t = next N s ss h in made-obey m (t .later) (h .2) (λ y k. begins y (List·Memᴰ·tail k)) (λ w k. stood-on t (stood w k)) obey
@@ -76,7 +76,7 @@ module _ {n : ℕ} {some : 0 < n} {es : List Entry} (o : GoodLog es) where
       t : InTurn n some c (stepOf c (Writes a (w .key) (w .value) client) .cluster)
       t = next N (Writes a (w .key) (w .value) client) ss h
 
-      go : (v : Written) → (v ≡ w) ⊎ Among v ws → Stood n some (stepOf c (Writes a (w .key) (w .value) client) .cluster) v
+      go : (v : AnsweredWrite) → (v ≡ w) ⊎ Among v ws → Stood n some (stepOf c (Writes a (w .key) (w .value) client) .cluster) v
       go v (inl e) = rw e (wrote N a client w told t)
       go v (inr k) = stood-on t (stood v k)
   made-obey (reads {c = c} {rs = rs} q key asked session value position time told asks m) N h begins stood obey =
@@ -90,12 +90,12 @@ good-log : {es : List Entry} {g : Committed} → HoldsAll es g → GoodLog (entr
 unfolding couldHold
 good-log {g = g} k =
     record {
-      order = orderly (and-right (leb (length (g .terms)) committedLimit) _ (and-right (together g) _ (k .could-hold)));
+      order = orderly (and-right (leb (length (g .terms)) committedLimit) _ (and-right (sameLengths g) _ (k .could-hold)));
       none-at-zero = k .none-at-zero;
     }
 
 pub honest-phone : HonestPromised
-unfolding AllObey listOk answerTo
+unfolding AllObey listOk checkedOf
 honest-phone n ss rs g two seven h made few holds =
     decided-clear Refused (firstBreaker (length rs) (obeysAt (entriesOf g) rs)) ((couldHold g, IllFormed) ∷ (listOk rs (length rs), OutOfRange) ∷ [])
     (holds .could-hold, (and-both _ _ (le-leb (length rs) mostRecords few) (every-all _ (length rs) (λ i l. obey i l .0)), tt))
@@ -107,8 +107,8 @@ honest-phone n ss rs g two seven h made few holds =
     begins : (y : Cluster) → Among y (recordsOf (freshCluster n) ss) → (i : ℕ) → i < n → Beginning (covered (serverAt y i)) (entriesOf g)
     begins y k i l =
         beginning-trans
-        (beginning (covered (serverAt y i)) (longest n ss) (longest-beginning n ss two seven h .begins-with _ (record { moment = y; of-the-run = k; server = i; counted = l; is = refl })))
-        (beginning (longest n ss) (entriesOf g) (holds .begins))
+        (beginning (covered (serverAt y i)) (longestCovered n ss) (longest-beginning n ss two seven h .begins-with _ (record { moment = y; of-the-run = k; server = i; counted = l; is = refl })))
+        (beginning (longestCovered n ss) (entriesOf g) (holds .begins))
 
     obey : AllObey (entriesOf g) rs
     obey =

@@ -33,8 +33,8 @@ use Rattle.rules.specs.Rules.{rowOf, stepOf}
 use Rattle.rules.proofs.Outcomes.{answered-done}
 use Rattle.safety.proofs.Stepped.{Now}
 use Rattle.histories.specs.declared.PhoneRecord.{PhoneRecord}
-use Rattle.histories.specs.Rules.{noRecord, inRange, lastWhere, knownTime, readable, valueAt, notBefore, keepsOrder, readObeys, obeys}
-use Rattle.honest.specs.Promise.{readRecord, AsksLatest}
+use Rattle.histories.specs.Rules.{noRecord, recordInRange, lastWhere, knownTime, readable, valueAt, notBefore, keepsOrder, readObeys, obeys}
+use Rattle.honest.specs.Promise.{recordOfRead, AsksLatest}
 use Rattle.honest.proofs.Moments.{all-counted, covered-long}
 
 -- ---- time and value, against a log
@@ -133,9 +133,9 @@ module _ {n : ℕ} {some : 0 < n} {c : Cluster} (N : Now n some c) {es : List En
 
   pub read-obeys : (q key : ℕ) (asked : Time) (session value position : ℕ) (time : Time) (rs : List PhoneRecord)
       → stepOf c (MajorityRead q key asked) .answer ≡ A.Value value time → AsksLatest rs session asked
-      → let r = readRecord session key value position time in
-      (inRange r ≡ true) × (obeys es rs r ≡ true)
-  unfolding rowOf inRange obeys readObeys
+      → let r = recordOfRead session key value position time in
+      (recordInRange r ≡ true) × (obeys es rs r ≡ true)
+  unfolding rowOf recordInRange obeys readObeys
   read-obeys q key asked session value position time rs told asks =
       let d = answered-done c (MajorityRead q key asked) told refl in
       let b = within q (omega (arith, ltb-true q (serverCount c) (d .clear .0), all-counted N)) in
@@ -146,5 +146,5 @@ module _ {n : ℕ} {some : 0 < n} {c : Cluster} (N : Now n some c) {es : List En
         and-both _ _ (d .clear .1 .0) refl,
         and-both _ _ (rw t at (time-known o b))
             (and-both _ _ (eq-eqb _ _ (rw t at (same-value o b key) ∙ v))
-            (in-order rs (readRecord session key value position time) asked asks (rw u at late))),
+            (in-order rs (recordOfRead session key value position time) asked asks (rw u at late))),
       )

@@ -36,20 +36,20 @@ use Rattle.safety.specs.Steps.{stop}
 use Rattle.safety.specs.Promise.{entryOf}
 use Rattle.safety.proofs.Stepped.{Now}
 use Rattle.histories.specs.declared.PhoneRecord.{PhoneRecord}
-use Rattle.histories.specs.Rules.{inRange, sameWrite, writeObeys, obeys}
-use Rattle.honest.specs.Promise.{Written, writeRecord}
+use Rattle.histories.specs.Rules.{recordInRange, sameWrite, writeObeys, obeys}
+use Rattle.honest.specs.Promise.{AnsweredWrite, recordOfWrite}
 use Rattle.honest.proofs.Moments.{InTurn, then, all-counted, within, covered-long, one-entry}
 
 -- the entry that a write's answer tells of
-abbrev entryFor : Written → Entry
+abbrev entryFor : AnsweredWrite → Entry
 entryFor w = record { term = w .term; key = w .key; value = w .value; time = w .time }
 
-written-same : (session : ℕ) (w : Written) → sameWrite (entryFor w) (writeRecord session w) ≡ true
+written-same : (session : ℕ) (w : AnsweredWrite) → sameWrite (entryFor w) (recordOfWrite session w) ≡ true
 unfolding sameWrite
 written-same session w = and-both _ _ (eq-eqb (w .key) (w .key) refl) (and-both _ _ (eq-eqb (w .value) (w .value) refl) (sameTime-refl (w .time)))
 
 -- at some moment up to c, some server had it at its position
-pub record Stood (n : ℕ) (some : 0 < n) (c : Cluster) (w : Written) : Type 0 where
+pub record Stood (n : ℕ) (some : 0 < n) (c : Cluster) (w : AnsweredWrite) : Type 0 where
   pub moment : Cluster
   pub turn : InTurn n some moment c
   pub server : ℕ
@@ -58,13 +58,13 @@ pub record Stood (n : ℕ) (some : 0 < n) (c : Cluster) (w : Written) : Type 0 w
   pub entry : entryOf moment server (w .position) ≡ entryFor w
   pub key : w .key ≤ highestKey
 
-pub stood-on : {n : ℕ} {some : 0 < n} {c d : Cluster} {w : Written} → InTurn n some c d → Stood n some c w → Stood n some d w
+pub stood-on : {n : ℕ} {some : 0 < n} {c d : Cluster} {w : AnsweredWrite} → InTurn n some c d → Stood n some c w → Stood n some d w
 stood-on t s =
     record { moment = s .moment; turn = then (s .turn) t; server = s .server; counted = s .counted; long = s .long; entry = s .entry; key = s .key }
 
 -- ---- a write that is answered
 
-module _ {n : ℕ} {some : 0 < n} {c : Cluster} (N : Now n some c) (a : ℕ) (client : Time) (w : Written)
+module _ {n : ℕ} {some : 0 < n} {c : Cluster} (N : Now n some c) (a : ℕ) (client : Time) (w : AnsweredWrite)
     (told : stepOf c (Writes a (w .key) (w .value) client) .answer ≡ A.Entry (w .position) (w .term) (w .time)) where
   abbrev s : Server
   s = serverAt c a
@@ -122,7 +122,7 @@ module _ {n : ℕ} {some : 0 < n} {c : Cluster} (N : Now n some c) (a : ℕ) (cl
 -- ---- an acknowledgement
 
 module _ {n : ℕ} {some : 0 < n} {c : Cluster} (N : Now n some c) {es : List Entry}
-    (begins : (i : ℕ) → i < n → Beginning (covered (serverAt c i)) es) (q : ℕ) (w : Written) (S : Stood n some c w)
+    (begins : (i : ℕ) → i < n → Beginning (covered (serverAt c i)) es) (q : ℕ) (w : AnsweredWrite) (S : Stood n some c w)
     {m term : ℕ} {time : Time} (told : stepOf c (Acknowledged q 0 (w .position) (w .term)) .answer ≡ A.Entry m term time) where
   -- what it says of q: it has an entry of that term there, and its commit point has reached it
   record Reached : Type 0 where
@@ -152,12 +152,12 @@ module _ {n : ℕ} {some : 0 < n} {c : Cluster} (N : Now n some c) {es : List En
       ∙ sym (one-entry (S .turn) (S .server) q (S .counted) (R .below) (w .position) (S .long) (omega (arith, R .reached, within N q)) (ap (λ (d : Entry). d .term) (S .entry) ∙ sym (R .term-is)))
       ∙ S .entry
 
-  pub write-obeys : (session : ℕ) (rs : List PhoneRecord) → (inRange (writeRecord session w) ≡ true) × (obeys es rs (writeRecord session w) ≡ true)
-  unfolding inRange obeys writeObeys
+  pub write-obeys : (session : ℕ) (rs : List PhoneRecord) → (recordInRange (recordOfWrite session w) ≡ true) × (obeys es rs (recordOfWrite session w) ≡ true)
+  unfolding recordInRange obeys writeObeys
   write-obeys session rs =
       let R = reached-it in (
         and-both _ _ (le-leb (w .key) highestKey (S .key)) refl,
         and-both _ _ (le-leb 1 (w .position) (R .from-one))
             (and-both _ _ (le-leb (w .position) (length es) (omega (arith, R .reached, covered-long N q, begins q (R .below) .long)))
-            (ap (λ (d : Entry). sameWrite d (writeRecord session w)) entry-there ∙ written-same session w)),
+            (ap (λ (d : Entry). sameWrite d (recordOfWrite session w)) entry-there ∙ written-same session w)),
       )

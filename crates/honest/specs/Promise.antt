@@ -1,4 +1,4 @@
--- An honest phone is never accused: the records that are made along a run are accepted, against any committed log that holds the longest
+-- An honest phone is never accused: the records that are made along a run are accepted, against any committed log that holds the longestCovered
 -- beginning that was ever covered.
 -- Assumes nothing.
 use mathlib.Core.Path.{_≡_}
@@ -29,20 +29,20 @@ use Rattle.histories.specs.Longest.{longestOf, columnsOf}
 -- ---- what phones record
 
 -- a write that was answered: its key and value, and the position, term and time of the answer
-pub record Written : Type 0 where
+pub record AnsweredWrite : Type 0 where
   pub key : ℕ
   pub value : ℕ
   pub position : ℕ
   pub term : ℕ
   pub time : Time
 
-abbrev pub writeRecord : ℕ → Written → PhoneRecord
-writeRecord session w =
+abbrev pub recordOfWrite : ℕ → AnsweredWrite → PhoneRecord
+recordOfWrite session w =
     record { session = session; kind = writeKind; key = w .key; value = w .value; position = w .position; time = w .time }
 
 -- a read's position says nothing
-abbrev pub readRecord : (session key value position : ℕ) → Time → PhoneRecord
-readRecord session key value position time =
+abbrev pub recordOfRead : (session key value position : ℕ) → Time → PhoneRecord
+recordOfRead session key value position time =
     record { session = session; kind = readKind; key = key; value = value; position = position; time = time }
 
 -- the session asks with the latest time that it has seen, or a later one: it is not before that of any record that the session has
@@ -51,27 +51,27 @@ AsksLatest rs session asked = (e : PhoneRecord) → Among e rs → e .session �
 
 -- along the steps from c on, after the writes ws were answered and the records rs were made, the records out can be made in the end. A record
 -- is made before its step is taken, so which answered steps are recorded, how often, and under which session is free
-pub data Made : Cluster → List Step → List Written → List PhoneRecord → List PhoneRecord → Type 0 where
+pub data Made : Cluster → List Step → List AnsweredWrite → List PhoneRecord → List PhoneRecord → Type 0 where
   -- no step is left
-  ends : {c : Cluster} {ws : List Written} {rs : List PhoneRecord} → Made c [] ws rs rs
+  ends : {c : Cluster} {ws : List AnsweredWrite} {rs : List PhoneRecord} → Made c [] ws rs rs
   -- the next step is taken, whatever it answers
-  goes : {c : Cluster} {ss : List Step} {ws : List Written} {rs out : List PhoneRecord} (s : Step) → Made (stepOf c s .cluster) ss ws rs out
+  goes : {c : Cluster} {ss : List Step} {ws : List AnsweredWrite} {rs out : List PhoneRecord} (s : Step) → Made (stepOf c s .cluster) ss ws rs out
       → Made c (s ∷ ss) ws rs out
   -- the next step is a write that is answered, and is kept in mind
-  writes : {c : Cluster} {ss : List Step} {ws : List Written} {rs out : List PhoneRecord} (a : ℕ) (client : Time) (w : Written)
+  writes : {c : Cluster} {ss : List Step} {ws : List AnsweredWrite} {rs out : List PhoneRecord} (a : ℕ) (client : Time) (w : AnsweredWrite)
       → stepOf c (Writes a (w .key) (w .value) client) .answer ≡ A.Entry (w .position) (w .term) (w .time)
       → Made (stepOf c (Writes a (w .key) (w .value) client) .cluster) ss (w ∷ ws) rs out
       → Made c (Writes a (w .key) (w .value) client ∷ ss) ws rs out
   -- the next step is a majority read that is answered, by a session that asks with its latest time: a record of it is made
-  reads : {c : Cluster} {ss : List Step} {ws : List Written} {rs out : List PhoneRecord} (q key : ℕ) (asked : Time) (session value position : ℕ)
+  reads : {c : Cluster} {ss : List Step} {ws : List AnsweredWrite} {rs out : List PhoneRecord} (q key : ℕ) (asked : Time) (session value position : ℕ)
       (time : Time) → stepOf c (MajorityRead q key asked) .answer ≡ A.Value value time → AsksLatest rs session asked
-      → Made c (MajorityRead q key asked ∷ ss) ws (rs ++ (readRecord session key value position time ∷ [])) out
+      → Made c (MajorityRead q key asked ∷ ss) ws (rs ++ (recordOfRead session key value position time ∷ [])) out
       → Made c (MajorityRead q key asked ∷ ss) ws rs out
   -- the next step asks any server, with count 0, about the position and term of a write that was answered, and is answered: a record of that
   -- write is made, with the position and time of its own answer
-  acknowledges : {c : Cluster} {ss : List Step} {ws : List Written} {rs out : List PhoneRecord} (q session : ℕ) (w : Written) {n term : ℕ}
+  acknowledges : {c : Cluster} {ss : List Step} {ws : List AnsweredWrite} {rs out : List PhoneRecord} (q session : ℕ) (w : AnsweredWrite) {n term : ℕ}
       {time : Time} → Among w ws → stepOf c (Acknowledged q 0 (w .position) (w .term)) .answer ≡ A.Entry n term time
-      → Made c (Acknowledged q 0 (w .position) (w .term) ∷ ss) ws (rs ++ (writeRecord session w ∷ [])) out
+      → Made c (Acknowledged q 0 (w .position) (w .term) ∷ ss) ws (rs ++ (recordOfWrite session w ∷ [])) out
       → Made c (Acknowledged q 0 (w .position) (w .term) ∷ ss) ws rs out
 
 -- ---- what was covered
@@ -81,9 +81,9 @@ abbrev pub recordsOf : Cluster → List Step → List Cluster
 recordsOf c [] = c ∷ []
 recordsOf c (s ∷ ss) = c ∷ recordsOf (stepOf c s .cluster) ss
 
--- the longest beginning that was ever covered in a run from the fresh cluster of n servers
-abbrev pub longest : ℕ → List Step → List Entry
-longest n ss = longestOf [] (recordsOf (freshCluster n) ss)
+-- the longestCovered beginning that was ever covered in a run from the fresh cluster of n servers
+abbrev pub longestCovered : ℕ → List Step → List Entry
+longestCovered n ss = longestOf [] (recordsOf (freshCluster n) ss)
 
 -- some server's commit point covered these entries at some moment of the run
 pub record CoveredIn (n : ℕ) (ss : List Step) (es : List Entry) : Type 0 where
@@ -101,15 +101,15 @@ pub record HoldsAll (es : List Entry) (g : Committed) : Type 0 where
 
 -- ---- what is promised
 
--- there is a longest beginning
+-- there is a longestCovered beginning
 pub record LongestPromise (n : ℕ) (ss : List Step) : Type 0 where
   -- of two beginnings that were covered, at whatever moments, the one that is not longer is a beginning of the other
   pub comparable : (xs ys : List Entry) → CoveredIn n ss xs → CoveredIn n ss ys → length xs ≤ length ys → isBeginning xs ys ≡ true
-  -- the longest was covered, and whatever was covered is a beginning of it
-  pub was-covered : CoveredIn n ss (longest n ss)
-  pub begins-with : (es : List Entry) → CoveredIn n ss es → isBeginning es (longest n ss) ≡ true
+  -- the longestCovered was covered, and whatever was covered is a beginning of it
+  pub was-covered : CoveredIn n ss (longestCovered n ss)
+  pub begins-with : (es : List Entry) → CoveredIn n ss es → isBeginning es (longestCovered n ss) ≡ true
   -- its own entries are a log that holds it, so there always is one to check against
-  pub own-log : HoldsAll (longest n ss) (columnsOf (longest n ss))
+  pub own-log : HoldsAll (longestCovered n ss) (columnsOf (longestCovered n ss))
 
 -- for every fresh cluster of two to seven servers and any steps in any order, none of them a start that succeeds
 abbrev pub LongestPromised : Type 0
@@ -119,4 +119,4 @@ LongestPromised = (n : ℕ) (ss : List Step) → fewestServers ≤ n → n ≤ m
 abbrev pub HonestPromised : Type 0
 HonestPromised =
     (n : ℕ) (ss : List Step) (rs : List PhoneRecord) (g : Committed) → fewestServers ≤ n → n ≤ mostServers → StepsFrom (freshCluster n) ss
-    → Made (freshCluster n) ss [] [] rs → length rs ≤ mostRecords → HoldsAll (longest n ss) g → checkOf rs g ≡ Accepted
+    → Made (freshCluster n) ss [] [] rs → length rs ≤ mostRecords → HoldsAll (longestCovered n ss) g → checkOf rs g ≡ Accepted

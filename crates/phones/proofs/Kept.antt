@@ -22,7 +22,7 @@ use Rattle.phones.specs.declared.ReadRecord.{ReadRecord}
 use Rattle.phones.specs.declared.ReadRecord.the-variants.{Record, NoRecord}
 use Rattle.phones.specs.declared.Listed.{Listed}
 use Rattle.phones.specs.Records.{readRecord}
-use Rattle.phones.specs.Listed.{mostKept, newList, recordsKept, mostLines, numberAfter, lineNumber, withRecord, spoilt, takesIn, afterRead, afterLine, listOf, Reads, FirstBad}
+use Rattle.phones.specs.Listed.{mostKept, newList, recordsKept, mostLines, numberAfter, lineNumber, withRecord, spoilt, takesIn, listAfterRead, listAfterLine, listOf, Reads, FirstBad}
 
 number-more : (n : ℕ) → numberAfter (lineNumber n) ≡ lineNumber (n + 1)
 unfolding numberAfter
@@ -36,18 +36,18 @@ number-more n = ⊎-elim below above (lt-or-le (lineNumber n) mostLines)
 
 -- ---- one line more
 
-after-good : (s : Listed) (read : ReadRecord) → s .bad ≡ false → afterRead s read ≡ takesIn s read
-unfolding afterRead
+after-good : (s : Listed) (read : ReadRecord) → s .bad ≡ false → listAfterRead s read ≡ takesIn s read
+unfolding listAfterRead
 after-good s read e = ap (λ (b : Bool). cond b s (takesIn s read)) e
 
-pub after-bad : (s : Listed) (read : ReadRecord) → s .bad ≡ true → s ≡ afterRead s read
-unfolding afterRead
+pub after-bad : (s : Listed) (read : ReadRecord) → s .bad ≡ true → s ≡ listAfterRead s read
+unfolding listAfterRead
 after-bad s read e = sym (ap (λ (b : Bool). cond b s (takesIn s read)) e)
 
-pub after-none : (s : Listed) (read : ReadRecord) (t : Listed) → s .bad ≡ false → read ≡ NoRecord → t ≡ spoilt s → t ≡ afterRead s read
+pub after-none : (s : Listed) (read : ReadRecord) (t : Listed) → s .bad ≡ false → read ≡ NoRecord → t ≡ spoilt s → t ≡ listAfterRead s read
 after-none s read t b e p = p ∙ sym (after-good s read b ∙ ap (takesIn s) e)
 
-pub after-record : (s : Listed) (read : ReadRecord) (r : PhoneRecord) (t : Listed) → s .bad ≡ false → read ≡ Record r → t ≡ withRecord s r → t ≡ afterRead s read
+pub after-record : (s : Listed) (read : ReadRecord) (r : PhoneRecord) (t : Listed) → s .bad ≡ false → read ≡ Record r → t ≡ withRecord s r → t ≡ listAfterRead s read
 after-record s read r t b e p = p ∙ sym (after-good s read b ∙ ap (takesIn s) e)
 
 -- after lines that are the records xs
@@ -100,24 +100,24 @@ module _ {xs : List PhoneRecord} {s : Listed} (u : Holds xs s) (l : List ℕ) wh
             good = u .good;
           }
 
-  holds-more : (r : PhoneRecord) → readRecord l ≡ Record r → Holds (xs ++ (r ∷ [])) (afterLine s l)
+  holds-more : (r : PhoneRecord) → readRecord l ≡ Record r → Holds (xs ++ (r ∷ [])) (listAfterLine s l)
   holds-more r e = subst (Holds (xs ++ (r ∷ []))) (after-record s (readRecord l) r (withRecord s r) (u .good) e refl) (with-more r)
 
   -- the first bad line
-  holds-bad : readRecord l ≡ NoRecord → afterLine s l ≡ spoilt s
+  holds-bad : readRecord l ≡ NoRecord → listAfterLine s l ≡ spoilt s
   holds-bad e = sym (after-none s (readRecord l) (spoilt s) (u .good) e refl)
 
-holds-all : (ls : List (List ℕ)) (rs xs : List PhoneRecord) (s : Listed) → Holds xs s → Reads ls rs → Holds (xs ++ rs) (overLines afterLine s ls)
+holds-all : (ls : List (List ℕ)) (rs xs : List PhoneRecord) (s : Listed) → Holds xs s → Reads ls rs → Holds (xs ++ rs) (overLines listAfterLine s ls)
 holds-all [] [] xs s u h = rw (append-nil xs) u
 holds-all [] (r ∷ rs) xs s u h = absurd h
 holds-all (l ∷ ls) [] xs s u h = absurd h
 holds-all (l ∷ ls) (r ∷ rs) xs s u h =
-    rw (append-assoc xs (r ∷ []) rs) at (holds-all ls rs (xs ++ (r ∷ [])) (afterLine s l) (holds-more u l r (h .0)) (h .1))
+    rw (append-assoc xs (r ∷ []) rs) at (holds-all ls rs (xs ++ (r ∷ [])) (listAfterLine s l) (holds-more u l r (h .0)) (h .1))
 
 -- once bad it stays as it is
-bad-stays : (ls : List (List ℕ)) (s : Listed) → s .bad ≡ true → overLines afterLine s ls ≡ s
+bad-stays : (ls : List (List ℕ)) (s : Listed) → s .bad ≡ true → overLines listAfterLine s ls ≡ s
 bad-stays [] s e = refl
-bad-stays (l ∷ ls) s e = ap (λ (x : Listed). overLines afterLine x ls) (sym (after-bad s (readRecord l) e)) ∙ bad-stays ls s e
+bad-stays (l ∷ ls) s e = ap (λ (x : Listed). overLines listAfterLine x ls) (sym (after-bad s (readRecord l) e)) ∙ bad-stays ls s e
 
 reads-long : (ls : List (List ℕ)) (rs : List PhoneRecord) → Reads ls rs → length rs ≡ length ls
 reads-long [] [] h = refl
@@ -149,11 +149,11 @@ pub first-bad : (text : List ℕ) (before : List (List ℕ)) (l : List ℕ) (aft
     → lines text ≡ before ++ (l ∷ after) → Reads before rs → readRecord l ≡ NoRecord
     → (listOf text .bad ≡ true) × (listOf text .number ≡ lineNumber (length before))
 first-bad text before l after rs e h b =
-    let s = overLines afterLine newList before in
+    let s = overLines listAfterLine newList before in
     let u = holds-all before rs [] newList holds-none h in
     let k : listOf text ≡ spoilt s =
-    ap (overLines afterLine newList) e ∙ lines-append afterLine newList before (l ∷ after)
-    ∙ ap (λ (x : Listed). overLines afterLine x after) (holds-bad u l b) ∙ bad-stays after (spoilt s) refl in (
+    ap (overLines listAfterLine newList) e ∙ lines-append listAfterLine newList before (l ∷ after)
+    ∙ ap (λ (x : Listed). overLines listAfterLine x after) (holds-bad u l b) ∙ bad-stays after (spoilt s) refl in (
       ap (λ (x : Listed). x .bad) k,
       ap (λ (x : Listed). x .number) k ∙ u .number ∙ ap lineNumber (reads-long before rs h),
     )

@@ -56,15 +56,15 @@ takesIn s (Record r) = withRecord s r
 takesIn s NoRecord = spoilt s
 
 -- after the first bad line no other counts
-unfoldable pub afterRead : Listed → ReadRecord → Listed
-afterRead s read = cond (s .bad) s (takesIn s read)
+unfoldable pub listAfterRead : Listed → ReadRecord → Listed
+listAfterRead s read = cond (s .bad) s (takesIn s read)
 
-abbrev pub afterLine : Listed → List ℕ → Listed
-afterLine s line = afterRead s (readRecord line)
+abbrev pub listAfterLine : Listed → List ℕ → Listed
+listAfterLine s line = listAfterRead s (readRecord line)
 
 -- the list that a text is
 abbrev pub listOf : List ℕ → Listed
-listOf text = overLines afterLine newList (lines text)
+listOf text = overLines listAfterLine newList (lines text)
 
 -- each line is the line of a record
 abbrev pub Reads : List (List ℕ) → List PhoneRecord → Type 0
@@ -89,7 +89,7 @@ abbrev pub newListing : Listing
 newListing = record { list = newList; reader = freshReader }
 
 abbrev pub listedBy : Listing → List ℕ → Listing
-listedBy l piece = record { list = overBytes afterLine (l .list) (l .reader) piece; reader = readerOver (l .reader) piece }
+listedBy l piece = record { list = overBytes listAfterLine (l .list) (l .reader) piece; reader = readerOver (l .reader) piece }
 
 abbrev pub finishedList : Listing → Listed
-finishedList l = atEnd afterLine (l .list) (l .reader)
+finishedList l = atEnd listAfterLine (l .list) (l .reader)

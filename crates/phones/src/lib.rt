@@ -2,7 +2,7 @@
 ghost use mathlib.Core.Path.{_≡_};
 ghost use Rattle.replay.specs.Pieces.{lineHeld};
 ghost use Rattle.phones.specs.Records.{recordIn, readRecord};
-ghost use Rattle.phones.specs.Listed.{newListing, numberAfter, withRecord, spoilt, afterRead, listedBy, finishedList};
+ghost use Rattle.phones.specs.Listed.{newListing, numberAfter, withRecord, spoilt, listAfterRead, listedBy, finishedList};
 use clock::Time;
 use histories::PhoneRecord;
 use histories::kept::MOST_KEPT;
@@ -128,7 +128,7 @@ fn spoilt(s: Listed) -> Listed
 
 // The list after a line that reads so. After the first bad line no other counts.
 fn after_line(s: Listed, read: ReadRecord) -> Listed
-    ensures { λ q. ⌜ q ≡ afterRead s read ⌝ }
+    ensures { λ q. ⌜ q ≡ listAfterRead s read ⌝ }
 {
     if s.bad {
         return s;

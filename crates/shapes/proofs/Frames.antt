@@ -1,4 +1,4 @@
--- No frame is longer than what is kept, and what is read of its bytes is the same where zeros follow them. Assumes nothing.
+-- No frame is longer than what is keptChars, and what is read of its bytes is the same where zeros follow them. Assumes nothing.
 use mathlib.Core.Path.{_≡_, refl, ap, _∙_}
 use mathlib.Core.Bool.{Bool, _&&_}
 use mathlib.Core.List.{List, [], _∷_, _++_}
@@ -17,9 +17,9 @@ use Rattle.saved.specs.Layout.{sortNumber, sizeOf}
 use Rattle.saved.specs.Shape.{editionOk}
 use Rattle.saved.specs.Written.{mostBytes}
 use Rattle.shapes.specs.declared.Left.{Left}
-use Rattle.shapes.specs.Walk.{kept, leftAfter}
+use Rattle.shapes.specs.Walk.{keptChars, leftAfter}
 
-pub small : (k : Sort) → chars * sizeOf k ≤ kept
+pub small : (k : Sort) → chars * sizeOf k ≤ keptChars
 small S.First = omega arith
 small S.Server = omega arith
 small S.Entry = omega arith
@@ -48,7 +48,7 @@ over-zeros n bs h i =
     ∙ then-zeros bs (drop (length bs) (zeros n)) (λ j. getD-drop (length bs) (zeros n) j 0 ∙ zero-at n _) i
 
 -- the bytes that `bytes_in` gives
-pub bytes-same : (line bs : List ℕ) → length line ≤ kept → bs ≡ over (bytesOf line) (replicate mostBytes 0) → (i : ℕ) → byteAt bs i ≡ byteAt (bytesOf line) i
+pub bytes-same : (line bs : List ℕ) → length line ≤ keptChars → bs ≡ over (bytesOf line) (replicate mostBytes 0) → (i : ℕ) → byteAt bs i ≡ byteAt (bytesOf line) i
 bytes-same line bs h e i = ap (λ (x : List ℕ). byteAt x i) e ∙ over-zeros mostBytes (bytesOf line) (omega (arith, bytes-length line)) i
 
 -- what a frame says of itself

@@ -14,7 +14,7 @@ use Rattle.saved.specs.Written.{mostBytes}
 use Rattle.shapes.specs.declared.Shape.{Shape}
 use Rattle.shapes.specs.declared.Due.{Due}
 use Rattle.shapes.specs.declared.Due.the-variants.{Frame, End}
-use Rattle.shapes.specs.Walk.{kept, dueOf, numberAfter, lineHeld, brokenAt, nextLine, endedAs, lineEnded}
+use Rattle.shapes.specs.Walk.{keptChars, dueOf, numberAfter, shapeHeld, brokenAt, nextLine, endedAs, lineEnded}
 use Rattle.shapes.proofs.Frames.{small, bytes-same, saysSo, left-same}
 
 module _ (s : Shape) where
@@ -23,41 +23,41 @@ module _ (s : Shape) where
   judged-end e = sym (ap (λ (d : Due). endedAs d s) e)
 
   module _ (k : Sort) (due : dueOf (s .left) ≡ Frame k) where
-    by-test : (t : Bool) → isFrame k (lineHeld s) ≡ t → cond t (nextLine k (bytesOf (lineHeld s)) s) (brokenAt s) ≡ lineEnded s
+    by-test : (t : Bool) → isFrame k (shapeHeld s) ≡ t → cond t (nextLine k (bytesOf (shapeHeld s)) s) (brokenAt s) ≡ lineEnded s
     unfolding endedAs
     by-test t e =
-        sym (ap (λ (d : Due). endedAs d s) due ∙ ap (λ (x : Bool). cond x (nextLine k (bytesOf (lineHeld s)) s) (brokenAt s)) e)
+        sym (ap (λ (d : Due). endedAs d s) due ∙ ap (λ (x : Bool). cond x (nextLine k (bytesOf (shapeHeld s)) s) (brokenAt s)) e)
 
     pub judged-over : s .over ≡ true → brokenAt s ≡ lineEnded s
     unfolding isFrame
-    judged-over e = by-test false (sym (held-over (sizeOf k) (saysSo k) false kept (small k) (s .held) (s .fill) (s .over) e))
+    judged-over e = by-test false (sym (held-over (sizeOf k) (saysSo k) false keptChars (small k) (s .held) (s .fill) (s .over) e))
 
-    pub judged-past : kept < s .fill → brokenAt s ≡ lineEnded s
+    pub judged-past : keptChars < s .fill → brokenAt s ≡ lineEnded s
     unfolding isFrame
-    judged-past h = by-test false (sym (held-past (sizeOf k) (saysSo k) false kept (small k) (s .held) (s .fill) (s .over) h))
+    judged-past h = by-test false (sym (held-past (sizeOf k) (saysSo k) false keptChars (small k) (s .held) (s .fill) (s .over) h))
 
-    module _ (o : s .over ≡ false) (h : s .fill ≤ kept) where
+    module _ (o : s .over ≡ false) (h : s .fill ≤ keptChars) where
       pub judged-other : isFrame k (take (s .fill) (s .held)) ≡ false → brokenAt s ≡ lineEnded s
-      judged-other e = by-test false (ap (isFrame k) (sym (held-within kept (s .held) (s .fill) (s .over) o h)) ∙ e)
+      judged-other e = by-test false (ap (isFrame k) (sym (held-within keptChars (s .held) (s .fill) (s .over) o h)) ∙ e)
 
       pub judged-frame : (q : Shape) (bs : List ℕ) → isFrame k (take (s .fill) (s .held)) ≡ true
           → bs ≡ over (bytesOf (take (s .fill) (s .held))) (replicate mostBytes 0) → q ≡ nextLine k bs s → q ≡ lineEnded s
       judged-frame q bs e f g =
           let line = take (s .fill) (s .held) in
-          let held : line ≡ lineHeld s = held-within kept (s .held) (s .fill) (s .over) o h in
+          let held : line ≡ shapeHeld s = held-within keptChars (s .held) (s .fill) (s .over) o h in
           let same = left-same bs (bytesOf line) (bytes-same line bs (omega (arith, length-take (s .fill) (s .held))) f) k (s .left) in
-          g ∙ (λ i. record { left = same i; held = replicate kept 0; fill = 0; over = false; number = numberAfter (s .number); broken = s .broken })
+          g ∙ (λ i. record { left = same i; held = replicate keptChars 0; fill = 0; over = false; number = numberAfter (s .number); broken = s .broken })
           ∙ ap (λ (x : List ℕ). nextLine k (bytesOf x) s) held ∙ by-test true (ap (isFrame k) (sym held) ∙ e)
 
--- as many characters are kept as before
-pub ended-slots : (s : Shape) → length (s .held) ≡ kept → length (lineEnded s .held) ≡ kept
+-- as many characters are keptChars as before
+pub ended-slots : (s : Shape) → length (s .held) ≡ keptChars → length (lineEnded s .held) ≡ keptChars
 unfolding endedAs
 ended-slots s l = go (dueOf (s .left))
   where
-    by : (k : Sort) (t : Bool) → length (cond {A = Shape} t (nextLine k (bytesOf (lineHeld s)) s) (brokenAt s) .held) ≡ kept
+    by : (k : Sort) (t : Bool) → length (cond {A = Shape} t (nextLine k (bytesOf (shapeHeld s)) s) (brokenAt s) .held) ≡ keptChars
     by k true = refl
     by k false = l
 
-    go : (d : Due) → length (endedAs d s .held) ≡ kept
-    go (Frame k) = by k (isFrame k (lineHeld s))
+    go : (d : Due) → length (endedAs d s .held) ≡ keptChars
+    go (Frame k) = by k (isFrame k (shapeHeld s))
     go End = l

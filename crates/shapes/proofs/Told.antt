@@ -23,7 +23,7 @@ use Rattle.saved.specs.Layout.{sizeOf}
 use Rattle.saved.specs.Shape.{isFrame, shapedBy, shaped}
 use Rattle.shapes.specs.declared.Shape.{Shape}
 use Rattle.shapes.specs.declared.Due.{Due}
-use Rattle.shapes.specs.Walk.{kept, freshShape, todo, leftAfter, lineHeld, withLine, pushOf, brokenAt, nextLine, endedAs, lineEnded, shapeAfter, walked, isShaped}
+use Rattle.shapes.specs.Walk.{keptChars, freshShape, todo, leftAfter, shapeHeld, withLine, shapePush, brokenAt, nextLine, endedAs, lineEnded, shapeAfter, walked, isShaped}
 use Rattle.shapes.proofs.Frames.{small, saysSo}
 use Rattle.shapes.proofs.Ahead.{Tells, over, next, tells, at-end}
 
@@ -58,14 +58,14 @@ closed-plain b (d ∷ ds) (more e q) = closed-plain d ds q
 
 -- the line that is held stands for the characters p
 abbrev StandsFor : Shape → List ℕ → Type 0
-StandsFor s p = Held.StandsFor kept (s .held) (s .fill) (s .over) p
+StandsFor s p = Held.StandsFor keptChars (s .held) (s .fill) (s .over) p
 
 -- it is a frame where they are one, and has their bytes
-held-frame : (k : Sort) (s : Shape) {p : List ℕ} → StandsFor s p → isFrame k (lineHeld s) ≡ isFrame k p
+held-frame : (k : Sort) (s : Shape) {p : List ℕ} → StandsFor s p → isFrame k (shapeHeld s) ≡ isFrame k p
 unfolding isFrame
-held-frame k s h = held-framed (sizeOf k) (saysSo k) false kept (small k) (s .held) (s .fill) (s .over) h
+held-frame k s h = held-framed (sizeOf k) (saysSo k) false keptChars (small k) (s .held) (s .fill) (s .over) h
 
-held-bytes : (k : Sort) (s : Shape) {p : List ℕ} → StandsFor s p → isFrame k p ≡ true → lineHeld s ≡ p
+held-bytes : (k : Sort) (s : Shape) {p : List ℕ} → StandsFor s p → isFrame k p ≡ true → shapeHeld s ≡ p
 unfolding isFrame
 held-bytes k s {p} h e =
     let f = is-frame (sizeOf k) (saysSo k) false p true e false≢true in
@@ -76,27 +76,27 @@ held-bytes k s {p} h e =
 -- one byte, by what it is
 pub after-broken : (s : Shape) (b : ℕ) → s .broken ≡ true → shapeAfter s b ≡ s
 unfolding shapeAfter
-after-broken s b e = ap (λ (x : Bool). cond x s (cond (eqb b lineFeed) (lineEnded s) (pushOf s b))) e
+after-broken s b e = ap (λ (x : Bool). cond x s (cond (eqb b lineFeed) (lineEnded s) (shapePush s b))) e
 
 pub after-feed : (s : Shape) (b : ℕ) → s .broken ≡ false → b ≡ lineFeed → shapeAfter s b ≡ lineEnded s
 unfolding shapeAfter
 after-feed s b e f =
-    ap (λ (x : Bool). cond x s (cond (eqb b lineFeed) (lineEnded s) (pushOf s b))) e ∙ ap (λ (x : Bool). cond x (lineEnded s) (pushOf s b)) (eq-eqb b lineFeed f)
+    ap (λ (x : Bool). cond x s (cond (eqb b lineFeed) (lineEnded s) (shapePush s b))) e ∙ ap (λ (x : Bool). cond x (lineEnded s) (shapePush s b)) (eq-eqb b lineFeed f)
 
-pub after-character : (s : Shape) (b : ℕ) → s .broken ≡ false → (b ≡ lineFeed → ⊥) → shapeAfter s b ≡ pushOf s b
+pub after-character : (s : Shape) (b : ℕ) → s .broken ≡ false → (b ≡ lineFeed → ⊥) → shapeAfter s b ≡ shapePush s b
 unfolding shapeAfter
 after-character s b e f =
-    ap (λ (x : Bool). cond x s (cond (eqb b lineFeed) (lineEnded s) (pushOf s b))) e ∙ ap (λ (x : Bool). cond x (lineEnded s) (pushOf s b)) (ne-eqb b lineFeed f)
+    ap (λ (x : Bool). cond x s (cond (eqb b lineFeed) (lineEnded s) (shapePush s b))) e ∙ ap (λ (x : Bool). cond x (lineEnded s) (shapePush s b)) (ne-eqb b lineFeed f)
 
 -- the same with what the line holds then
-pub after-kept : (s : Shape) (b : ℕ) → s .broken ≡ false → (b ≡ lineFeed → ⊥) → s .fill < kept
+pub after-kept : (s : Shape) (b : ℕ) → s .broken ≡ false → (b ≡ lineFeed → ⊥) → s .fill < keptChars
     → withLine s (set (s .held) (s .fill) b) (s .fill + 1) (s .over) ≡ shapeAfter s b
 after-kept s b e f h =
-    sym (after-character s b e f ∙ ap (λ (x : Bool). cond x (withLine s (set (s .held) (s .fill) b) (s .fill + 1) (s .over)) (withLine s (s .held) (s .fill) true)) (lt-ltb (s .fill) kept h))
+    sym (after-character s b e f ∙ ap (λ (x : Bool). cond x (withLine s (set (s .held) (s .fill) b) (s .fill + 1) (s .over)) (withLine s (s .held) (s .fill) true)) (lt-ltb (s .fill) keptChars h))
 
-pub after-full : (s : Shape) (b : ℕ) → s .broken ≡ false → (b ≡ lineFeed → ⊥) → kept ≤ s .fill → withLine s (s .held) (s .fill) true ≡ shapeAfter s b
+pub after-full : (s : Shape) (b : ℕ) → s .broken ≡ false → (b ≡ lineFeed → ⊥) → keptChars ≤ s .fill → withLine s (s .held) (s .fill) true ≡ shapeAfter s b
 after-full s b e f h =
-    sym (after-character s b e f ∙ ap (λ (x : Bool). cond x (withLine s (set (s .held) (s .fill) b) (s .fill + 1) (s .over)) (withLine s (s .held) (s .fill) true)) (le-ltb (s .fill) kept h))
+    sym (after-character s b e f ∙ ap (λ (x : Bool). cond x (withLine s (set (s .held) (s .fill) b) (s .fill + 1) (s .over)) (withLine s (s .held) (s .fill) true)) (le-ltb (s .fill) keptChars h))
 
 -- once broken it stays as it is
 pub broken-stays : (s : Shape) (text : List ℕ) → s .broken ≡ true → walked s text ≡ s
@@ -122,10 +122,10 @@ at-feed text right s p b h (over e) =
 at-feed text right s p b h (next k ks e f) = go (isFrame k p) refl
   where
     go : (y : Bool) → isFrame k p ≡ y
-        → isShaped (walked (cond (isFrame k (lineHeld s)) (nextLine k (bytesOf (lineHeld s)) s) (brokenAt s)) text) ≡ (closed text && shapedBy (todo (s .left)) (p ∷ lines text))
+        → isShaped (walked (cond (isFrame k (shapeHeld s)) (nextLine k (bytesOf (shapeHeld s)) s) (brokenAt s)) text) ≡ (closed text && shapedBy (todo (s .left)) (p ∷ lines text))
     go true y =
         rw (held-frame k s h ∙ y, e, y)
-        (right (nextLine k (bytesOf (lineHeld s)) s) [] b none (empty-stands refl refl)
+        (right (nextLine k (bytesOf (shapeHeld s)) s) [] b none (empty-stands refl refl)
         ∙ ap (λ (x : List ℕ). closed text && shapedBy (todo (leftAfter k (bytesOf x) (s .left))) (lines text)) (held-bytes k s h y)
         ∙ ap (λ (x : List Sort). closed text && shapedBy x (lines text)) (f (bytesOf p)))
     go false y = rw (held-frame k s h ∙ y, e, y) (broken-told (brokenAt s) text refl ∙ sym (and-no (closed text) false refl))

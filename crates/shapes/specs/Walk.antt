@@ -19,15 +19,15 @@ use Rattle.shapes.specs.declared.Due.{Due}
 use Rattle.shapes.specs.declared.Due.the-variants.{Frame, End}
 
 -- the characters of the longest frame
-abbrev pub kept : ℕ
-kept = chars * mostBytes
+abbrev pub keptChars : ℕ
+keptChars = chars * mostBytes
 
 -- nothing was read
 abbrev pub freshShape : Shape
 freshShape =
     record {
       left = record { begun = false; servers = 0; entries = 0; notes = 0; reports = 0 };
-      held = replicate kept 0;
+      held = replicate keptChars 0;
       fill = 0;
       over = false;
       number = 1;
@@ -61,14 +61,14 @@ leftAfter S.Note bs l = record { begun = l .begun; servers = l .servers; entries
 leftAfter S.Report bs l = record { begun = l .begun; servers = l .servers; entries = l .entries; notes = l .notes; reports = l .reports - 1 }
 
 -- the line that is held, and with one character more
-abbrev pub lineHeld : Shape → List ℕ
-lineHeld s = heldLine kept (s .held) (s .fill) (s .over)
+abbrev pub shapeHeld : Shape → List ℕ
+shapeHeld s = heldLine keptChars (s .held) (s .fill) (s .over)
 
 abbrev pub withLine : Shape → List ℕ → ℕ → Bool → Shape
 withLine s held fill over = record { left = s .left; held = held; fill = fill; over = over; number = s .number; broken = s .broken }
 
-abbrev pub pushOf : Shape → ℕ → Shape
-pushOf s b = pushed kept (withLine s) (s .held) (s .fill) (s .over) b
+abbrev pub shapePush : Shape → ℕ → Shape
+shapePush s b = pushed keptChars (withLine s) (s .held) (s .fill) (s .over) b
 
 -- lines are counted as far as a number goes
 abbrev pub mostLines : ℕ
@@ -86,7 +86,7 @@ abbrev pub nextLine : Sort → List ℕ → Shape → Shape
 nextLine k bs s =
     record {
       left = leftAfter k bs (s .left);
-      held = replicate kept 0;
+      held = replicate keptChars 0;
       fill = 0;
       over = false;
       number = numberAfter (s .number);
@@ -95,7 +95,7 @@ nextLine k bs s =
 
 -- at a line feed, by what is due
 unfoldable pub endedAs : Due → Shape → Shape
-endedAs (Frame k) s = cond (isFrame k (lineHeld s)) (nextLine k (bytesOf (lineHeld s)) s) (brokenAt s)
+endedAs (Frame k) s = cond (isFrame k (shapeHeld s)) (nextLine k (bytesOf (shapeHeld s)) s) (brokenAt s)
 endedAs End s = brokenAt s
 
 abbrev pub lineEnded : Shape → Shape
@@ -103,7 +103,7 @@ lineEnded s = endedAs (dueOf (s .left)) s
 
 -- after one byte; once broken it stays as it is
 unfoldable pub shapeAfter : Shape → ℕ → Shape
-shapeAfter s b = cond (s .broken) s (cond (eqb b lineFeed) (lineEnded s) (pushOf s b))
+shapeAfter s b = cond (s .broken) s (cond (eqb b lineFeed) (lineEnded s) (shapePush s b))
 
 abbrev pub walked : Shape → List ℕ → Shape
 walked s [] = s

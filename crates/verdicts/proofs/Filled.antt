@@ -11,7 +11,7 @@ use Rattle.log.specs.Entries.{zeroEntry}
 use Rattle.log.specs.Logs.{logLimit, live, lengthOf}
 use Rattle.hex.proofs.Places.{Put, put-none, put-more, put-all}
 use Rattle.hex.proofs.Trips.{over-all}
-use Rattle.histories.specs.Committed.{lent, joined, entriesOf}
+use Rattle.histories.specs.Committed.{lent, entriesOn, entriesOf}
 use Rattle.histories.specs.Longest.{columnsOf}
 use Rattle.verdicts.specs.declared.Columns.{Columns}
 use Rattle.verdicts.specs.Verdicts.{allColumns}
@@ -118,6 +118,6 @@ all-fit g n c h e = rw e record { terms = fit (λ d. d .term); keys = fit (λ d.
 
 -- the entries of a log that is lent are the log's
 pub columns-same : (es : List Entry) → entriesOf (columnsOf es) ≡ es
-unfolding joined
+unfolding entriesOn
 columns-same [] = refl
 columns-same (e ∷ es) = ap (λ (fs : List Entry). e ∷ fs) (columns-same es)

@@ -20,7 +20,7 @@ use Rattle.histories.specs.declared.Checked.{Checked}
 use Rattle.histories.specs.Checking.{checkOf}
 use Rattle.histories.specs.Longest.{longestOf, columnsOf}
 use Rattle.followed.specs.declared.Run.{Run}
-use Rattle.followed.specs.Follow.{begins, newRun, afterLine, runOf, NoneStarts}
+use Rattle.followed.specs.Follow.{begins, newRun, runAfterLine, runFollowed, NoneStarts}
 use Rattle.followed.proofs.Followed.{text-record, since-last}
 use Rattle.followed.proofs.Starts.{started-at, none-started, LastStart}
 use Rattle.phones.specs.declared.Listed.{Listed}
@@ -53,7 +53,7 @@ module _ (steps phones : List ℕ) where
   pub bad-line : (f : FirstBad (lines phones)) → verdictOn steps phones ≡ BadLine (lineNumber (length (f .before)))
   bad-line f =
       let b = first-bad phones (f .before) (f .bad) (f .after) (f .records) (f .split) (f .reads) (f .none) in
-      sym (verdict-bad (runOf steps) (listOf phones) (b .0)) ∙ ap BadLine (b .1)
+      sym (verdict-bad (runFollowed steps) (listOf phones) (b .0)) ∙ ap BadLine (b .1)
 
   module _ (rs : List PhoneRecord) (reads : Reads (lines phones) rs) where
     listed : AllRead rs (listOf phones)
@@ -61,25 +61,25 @@ module _ (steps phones : List ℕ) where
 
     -- no step line is a start that succeeds
     pub no-start : NoneStarts zeroCluster (lines steps) → verdictOn steps phones ≡ NoStart
-    no-start h = sym (verdict-none (runOf steps) (listOf phones) (listed .good) (none-started newRun (lines steps) h))
+    no-start h = sym (verdict-none (runFollowed steps) (listOf phones) (listed .good) (none-started newRun (lines steps) h))
 
     -- THE LAW: the records are checked against the longest beginning that was covered since the last start that succeeded
     module _ (s : LastStart zeroCluster (lines steps)) where
       abbrev pub opened : Cluster
       opened = answerTo (recordAfter zeroCluster (s .before)) (s .start) .cluster
 
-      started : runOf steps .starts ≡ 0 → ⊥
+      started : runFollowed steps .starts ≡ 0 → ⊥
       started e =
-          let r = overLines afterLine newRun (s .before) in
-          let split : runOf steps ≡ overLines afterLine r (s .start ∷ s .after) =
-          ap (overLines afterLine newRun) (s .split) ∙ lines-append afterLine newRun (s .before) (s .start ∷ s .after) in
-          let some : 0 < overLines afterLine r (s .start ∷ s .after) .starts =
+          let r = overLines runAfterLine newRun (s .before) in
+          let split : runFollowed steps ≡ overLines runAfterLine r (s .start ∷ s .after) =
+          ap (overLines runAfterLine newRun) (s .split) ∙ lines-append runAfterLine newRun (s .before) (s .start ∷ s .after) in
+          let some : 0 < overLines runAfterLine r (s .start ∷ s .after) .starts =
           started-at r (s .start) (s .after)
           (subst (λ (c : Cluster). begins (readStep (s .start)) (answerTo c (s .start) .answer) ≡ true) (sym (text-record newRun (s .before))) (s .succeeds)) in
           omega (arith, ap (λ (x : Run). x .starts) split)
 
       pub judged : verdictOn steps phones ≡ Judged (checkOf rs (columnsOf (longestOf [] (recordsOn opened (s .after)))))
       judged =
-          sym (verdict-judged (runOf steps) (listOf phones) (checkOf rs (columnsOf (longestOf [] (recordsOn opened (s .after))))) (listed .good) started
+          sym (verdict-judged (runFollowed steps) (listOf phones) (checkOf rs (columnsOf (longestOf [] (recordsOn opened (s .after))))) (listed .good) started
           (ap (λ (es : List Entry). checkOf rs (columnsOf es)) (sym (since-last steps (s .before) (s .start) (s .after) (s .split) (s .succeeds) (s .none-after)))
-          ∙ sym (listed .checked (columnsOf (live (runOf steps .longest))))))
+          ∙ sym (listed .checked (columnsOf (live (runFollowed steps .longest))))))

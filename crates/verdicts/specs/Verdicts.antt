@@ -9,7 +9,7 @@ use Rattle.log.specs.Logs.{live}
 use Rattle.histories.specs.Checking.{checkOf}
 use Rattle.histories.specs.Longest.{columnsOf}
 use Rattle.followed.specs.declared.Run.{Run}
-use Rattle.followed.specs.Follow.{runOf}
+use Rattle.followed.specs.Follow.{runFollowed}
 use Rattle.phones.specs.declared.Listed.{Listed}
 use Rattle.phones.specs.Listed.{recordsKept, listOf}
 use Rattle.verdicts.specs.declared.Columns.{Columns}
@@ -34,4 +34,4 @@ verdictOf run s =
 
 -- the verdict on two texts: the steps, and the phones' records
 abbrev pub verdictOn : List ℕ → List ℕ → Verdict
-verdictOn steps phones = verdictOf (runOf steps) (listOf phones)
+verdictOn steps phones = verdictOf (runFollowed steps) (listOf phones)

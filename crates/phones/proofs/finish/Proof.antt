@@ -1,6 +1,6 @@
 -- `phones::finish` meets its contract. Assumes nothing.
 use mathlib.Core.Path.{sym, ap, _∙_}
-use Rattle.phones.specs.Listed.{afterRead}
+use Rattle.phones.specs.Listed.{listAfterRead}
 use Rattle.replay.specs.Folds.{atEnd}
 use borrow.Author.Needs.{needs}
 use Rattle.phones.proofs.finish.Statement.{statement}
@@ -21,7 +21,7 @@ after-line-requires c κs = search needs
 
 returns-2 : tie.Need-returns-2
 unfolding atEnd
-returns-2 c = rw (sym (c .before .before .before .is-empty .ensures) ∙ c .before .before .if1 .left) (c .after-line .ensures ∙ ap (afterRead _) (c .before .record-held .ensures))
+returns-2 c = rw (sym (c .before .before .before .is-empty .ensures) ∙ c .before .before .if1 .left) (c .after-line .ensures ∙ ap (listAfterRead _) (c .before .record-held .ensures))
 
 pub finish-spec : {M : Type 1} → statement M
 finish-spec =

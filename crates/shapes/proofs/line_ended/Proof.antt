@@ -6,7 +6,7 @@ use Rattle.base.proofs.Bools.{said-no, said-yes}
 use Rattle.base.proofs.Facts.{mapped-long}
 use Rattle.saved.specs.declared.Sort.{Sort}
 use Rattle.shapes.specs.declared.Due.the-variants.{Frame}
-use Rattle.shapes.specs.Walk.{kept, dueOf}
+use Rattle.shapes.specs.Walk.{keptChars, dueOf}
 use Rattle.shapes.proofs.Judged.{judged-end, judged-over, judged-past, judged-other, judged-frame}
 use borrow.Author.Needs.{needs}
 use Rattle.shapes.proofs.line_ended.Statement.{statement}
@@ -19,7 +19,7 @@ sort c = c .before .due .given .0 .0
 is-due : (c : tie.After-known-told) → dueOf (c .before .before .before .before .args .s .left) ≡ Frame (sort c)
 is-due c = sym (c .before .before .before .expected .ensures) ∙ c .before .due .given .1
 
-slots : (c : tie.Start) → length (c .args .s .held) ≡ kept
+slots : (c : tie.Start) → length (c .args .s .held) ≡ keptChars
 slots c = search (needs, mapped-long)
 
 -- src/lib.rt:248:9

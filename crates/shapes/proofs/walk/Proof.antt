@@ -7,7 +7,7 @@ use lib.ListN.{length, drop, length-set}
 use lib.Seq.{drop-length}
 use Rattle.base.proofs.Facts.{mapped-long}
 use Rattle.shapes.specs.declared.Shape.{Shape}
-use Rattle.shapes.specs.Walk.{kept, walked}
+use Rattle.shapes.specs.Walk.{keptChars, walked}
 use Rattle.shapes.proofs.Told.{after-feed, after-kept, after-full, broken-stays, walked-more}
 use Rattle.shapes.proofs.Judged.{ended-slots}
 use Rattle.shapes.proofs.walk.Statement.{statement}
@@ -18,7 +18,7 @@ ended : (w q : Shape) (piece : List ℕ) (i : ℕ) → i ≡ length piece → wa
 ended w q piece i h e = sym (ap (λ (k : ℕ). walked q (drop k piece)) h ∙ ap (walked q) (drop-length piece)) ∙ e
 
 abbrev Inv-loop : tie.InvT-loop
-Inv-loop piece q₀ i₀ q i = (i ≤ length piece) × (length (q .held) ≡ kept) × (walked q (drop i piece) ≡ walked q₀ piece)
+Inv-loop piece q₀ i₀ q i = (i ≤ length piece) × (length (q .held) ≡ keptChars) × (walked q (drop i piece) ≡ walked q₀ piece)
 
 abbrev μ-loop : tie.MeasureT-loop
 μ-loop piece q₀ i₀ q i = length piece - i

@@ -7,14 +7,14 @@ use borrow.Author.Needs.{needs}
 use Rattle.base.specs.Numbers.{every}
 use Rattle.base.proofs.Bools.{said-no, said-yes}
 use Rattle.base.proofs.Every.{every-none, every-more}
-use Rattle.histories.specs.Rules.{inRange}
+use Rattle.histories.specs.Rules.{recordInRange}
 use Rattle.histories.specs.Checking.{recordAt}
 use Rattle.checks.proofs.Found.{out-here, out-none}
 use Rattle.checks.proofs.find.out_of_range.Statement.{statement}
 use Rattle.checks.proofs.find.out_of_range.Tie as tie
 
 abbrev Inv-loop : tie.InvT-loop
-Inv-loop s i₀ i = (i ≤ 257) × (every i (λ j. inRange (recordAt (s .records) j)) ≡ true)
+Inv-loop s i₀ i = (i ≤ 257) × (every i (λ j. recordInRange (recordAt (s .records) j)) ≡ true)
 
 abbrev μ-loop : tie.MeasureT-loop
 μ-loop s i₀ i = 257 - i

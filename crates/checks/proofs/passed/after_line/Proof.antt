@@ -1,5 +1,5 @@
 -- `checks::passed::after_line` meets its contract. Assumes nothing.
-use Rattle.checks.specs.Passing.{afterRead}
+use Rattle.checks.specs.Passing.{passedAfterRead}
 use borrow.Author.Needs.{needs}
 use Rattle.checks.proofs.passed.after_line.Statement.{statement}
 use Rattle.checks.proofs.passed.after_line.Tie as tie
@@ -20,7 +20,7 @@ noted-requires-2 : tie.Need-noted-requires-2
 noted-requires-2 c κs = search needs
 
 returns : tie.Need-returns
-unfolding afterRead
+unfolding passedAfterRead
 returns c =
     let d = c .before .before in
     rw (c .noted2 .ensures, c .before .noted .ensures, d .counted2 .ensures, d .before .counted .ensures, d .before .before .is-none .ensures)
