@@ -16,12 +16,6 @@ use Rattle.apart.proofs.Things.{note, report, f, g, h, queue, noting, h
 abbrev dirty : Queue
 dirty = record { reports = f ∷ replicate 7 zeroReport; len = 0 }
 
-pub zero-mail-of-source-1 : zeroMail .source ≡ 0
-zero-mail-of-source-1 = refl
-
-pub zero-mail-of-length-1 : zeroMail .queue .len ≡ 0
-zero-mail-of-length-1 = refl
-
 pub note-of-the-last-term : noteOf h .term ≡ 2
 note-of-the-last-term = refl
 

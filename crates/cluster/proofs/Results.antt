@@ -3,10 +3,9 @@ use Prim.Native.Nat.{ℕ, min}
 use Rattle.base.proofs.Results.{OneResult, one-result}
 use Rattle.cluster.specs.declared.Cluster.{Cluster}
 use Rattle.cluster.specs.declared.Server.{Server}
-use Rattle.cluster.specs.Servers.{clockedOf, clocksSet, electedAll, freshCluster, freshServer, mostServers, startedOf, votedOf, withServer, zeroCluster, zeroServer}
+use Rattle.cluster.specs.Servers.{clockedOf, clocksSet, electedAll, freshCluster, freshServer, mostServers, startedOf, votedOf, withServer, zeroCluster}
 use Rattle.cluster.specs.Sets.{isMajority, isWithin, member, membersOf}
 use Rattle.cluster.specs.WellFormed.{countedOk, numbersOk, serverOk, wellFormed, zeroOk}
-use Rattle.cluster.proofs.zero_server.Reads as zero-server-reads
 use Rattle.cluster.proofs.fresh_server.Reads as fresh-server-reads
 use Rattle.cluster.proofs.server_count.Reads as server-count-reads
 use Rattle.cluster.proofs.zero_cluster.Reads as zero-cluster-reads
@@ -26,9 +25,6 @@ use Rattle.cluster.proofs.sets.is_member.Reads as is-member-reads
 use Rattle.cluster.proofs.sets.members.Reads as members-reads
 use Rattle.cluster.proofs.sets.within.Reads as within-reads
 use Rattle.cluster.proofs.sets.majority.Reads as majority-reads
-
-pub zero-server : OneResult (λ x. zero-server-reads.Learnt tt tt x tt)
-zero-server = one-result zeroServer
 
 pub fresh-server : OneResult (λ x. fresh-server-reads.Learnt tt tt x tt)
 fresh-server = one-result freshServer

@@ -1,7 +1,7 @@
 // Servers side by side in one record, by value: the fixed records, one server replaced, all servers changed, and which records are well formed.
 ghost use mathlib.Core.Path.{_≡_};
 ghost use Prim.Native.Nat.{min};
-ghost use Rattle.cluster.specs.Servers.{mostServers, zeroServer, freshServer, zeroCluster, startedOf, freshCluster, withServer, votedOf, electedAll, clockedOf, clocksSet, changedOf, changedAll};
+ghost use Rattle.cluster.specs.Servers.{mostServers, freshServer, zeroCluster, startedOf, freshCluster, withServer, votedOf, electedAll, clockedOf, clocksSet, changedOf, changedAll};
 ghost use Rattle.cluster.specs.WellFormed.{numbersOk, countedOk, zeroOk, serverOk, wellFormed};
 use clock::Time;
 use log::Log;
@@ -68,12 +68,6 @@ pub const ZERO_CLUSTER: Cluster = Cluster {
     servers: [ZERO_SERVER; MOST_SERVERS],
 };
 
-pub fn zero_server() -> Server
-    ensures { λ r. ⌜ r ≡ zeroServer ⌝ }
-{
-    ZERO_SERVER
-}
-
 pub fn fresh_server() -> Server
     ensures { λ r. ⌜ r ≡ freshServer ⌝ }
 {
@@ -102,7 +96,7 @@ pub fn zero_cluster() -> Cluster
 pub fn started(s: Server, i: usize, n: usize) -> Server
     ensures { λ r. ⌜ r ≡ startedOf n i s ⌝ }
 {
-    if i < n { FRESH_SERVER } else { s }
+    if i < n { fresh_server() } else { s }
 }
 
 // The record with server i replaced; past the servers nothing is.

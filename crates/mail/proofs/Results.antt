@@ -9,10 +9,9 @@ use Rattle.mail.specs.declared.Mail.{Mail}
 use Rattle.mail.specs.Reports.{givesWay, noteOf}
 use Rattle.mail.specs.Queues.{oldestTaken, reportAt}
 use Rattle.mail.specs.Queues as queues
-use Rattle.mail.specs.Mails.{noteAt, withSource, zeroMail}
+use Rattle.mail.specs.Mails.{noteAt, withSource}
 use Rattle.mail.specs.Mails as mails
 use Rattle.mail.specs.Order.{isUnused, isUsed, mailOk, noteOk, notesOk, queueOk, slotOk, sourceOk}
-use Rattle.mail.proofs.zero_mail.Reads as zero-mail-reads
 use Rattle.mail.proofs.note_of.Reads as note-of-reads
 use Rattle.mail.proofs.gives_way.Reads as gives-way-reads
 use Rattle.mail.proofs.note_at.Reads as note-at-reads
@@ -32,9 +31,6 @@ use Rattle.mail.proofs.slot_ok.Reads as slot-ok-reads
 use Rattle.mail.proofs.queue_ok.Reads as queue-ok-reads
 use Rattle.mail.proofs.source_ok.Reads as source-ok-reads
 use Rattle.mail.proofs.mail_ok.Reads as mail-ok-reads
-
-pub zero-mail : OneResult (λ x. zero-mail-reads.Learnt tt tt x tt)
-zero-mail = one-result zeroMail
 
 pub note-of : (r : Report) → OneResult (λ x. note-of-reads.Learnt tt (r, tt) x (r, tt))
 note-of r = one-result (noteOf r)

@@ -2,7 +2,7 @@
 ghost use mathlib.Core.Path.{_≡_};
 ghost use Rattle.mail.specs.Reports.{noteOf, givesWay};
 ghost use Rattle.mail.specs.Queues.{reportAt, queued, oldestTaken};
-ghost use Rattle.mail.specs.Mails.{zeroMail, noteAt, withSource, noted, received, taken, emptied};
+ghost use Rattle.mail.specs.Mails.{noteAt, withSource, noted, received, taken, emptied};
 ghost use Rattle.mail.specs.Order.{isUnused, isUsed, noteOk, notesOk, slotOk, queueOk, sourceOk, mailOk};
 
 // What a server tells of itself after it took over entries: its number, its term, its last term and its length.
@@ -62,12 +62,6 @@ pub const ZERO_MAIL: Mail = Mail {
     queue: EMPTY_QUEUE,
     source: 0,
 };
-
-pub fn zero_mail() -> Mail
-    ensures { λ r. ⌜ r ≡ zeroMail ⌝ }
-{
-    ZERO_MAIL
-}
 
 // What a report says.
 pub fn note_of(r: Report) -> Note

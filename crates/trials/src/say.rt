@@ -89,7 +89,7 @@ fn entry(i: usize, at: usize, e: Entry) {
 // An entry of server i, where it is within the length or not zero.
 fn slot(i: usize, at: usize, len: usize, e: Entry) {
     if len < at {
-        if log::same_entry(e, log::ZERO_ENTRY) {
+        if log::same_entry(e, log::zero_entry()) {
             return;
         }
     }
