@@ -2,9 +2,11 @@
 //! the types, demand 3's promises and the words of the other claims are made of, found by following
 //! names through every `crates/*/specs`. Writes how many lines of each file they are, and fails where
 //! they are more than it says below or a name is missing. The types that they speak of, declared in
-//! `crates/*/src`, are counted apart.
+//! `crates/*/src`, are counted apart. With `--pins` it writes instead the files that hold them, the page of
+//! claims, and the files that a statement there takes a word from. The gate holds them to `.ci/pinned`.
 
 use std::collections::{BTreeMap, BTreeSet, HashMap};
+use std::env;
 use std::fs;
 use std::io;
 use std::path::{Path, PathBuf};
@@ -51,6 +53,8 @@ const DECIDED: [(&str, &str); 2] = [("loads.Loads", "loadOf"), ("verdicts.Verdic
 const WORDS: [&str; 3] = ["steps.Reasons", "rules.Statements", "loads.Statements"];
 /// What a type's module is named by, as `log.declared.Entry`, where its definition is its declaration.
 const DECLARED: &str = ".declared.";
+/// The page of claims.
+const PAGE: &str = "crates/claims/proofs/Claims.antt";
 /// How many lines they may be.
 const MOST: usize = 1370;
 
@@ -65,20 +69,72 @@ struct Module {
 }
 
 fn main() -> ExitCode {
-    let modules = match read_modules(Path::new("crates")) {
-        Ok(modules) => modules,
+    let read = read_modules(Path::new("crates"));
+    let read = read.and_then(|modules| Ok((modules, fs::read_to_string(PAGE)?)));
+    let (modules, page) = match read {
+        Ok(read) => read,
         Err(error) => {
             eprintln!("believed: {error}");
             return ExitCode::FAILURE;
         }
     };
     match believed(&modules) {
+        Ok(places) if env::args().nth(1).as_deref() == Some("--pins") => {
+            pins(&places, &page).iter().for_each(|file| println!("{file}"));
+            ExitCode::SUCCESS
+        }
         Ok(places) => report(&modules, &places),
         Err((module, name)) => {
             eprintln!("believed: {module} has no {name}");
             ExitCode::FAILURE
         }
     }
+}
+
+/// The files that are pinned.
+fn pins(places: &BTreeSet<Place>, page: &str) -> BTreeSet<String> {
+    let mut files = BTreeSet::from([PAGE.to_string()]);
+    for (module, _) in places.iter().filter(|place| !place.0.contains(DECLARED)) {
+        let (room, file) = module.split_once('.').unwrap_or_default();
+        files.insert(format!("crates/{room}/specs/{file}.antt"));
+    }
+    let statements = statements(page);
+    let words: BTreeSet<&str> = statements.split(is_between).collect();
+    for import in page.lines().filter_map(|line| line.strip_prefix("use Rattle·")) {
+        let is_named = match import.split_once(" as ") {
+            Some((_, name)) => words.iter().any(|word| word.starts_with(&format!("{name}."))),
+            None => {
+                let (_, names) = import.split_once(".{").unwrap_or_default();
+                names.trim_end_matches('}').split(", ").any(|name| words.contains(name))
+            }
+        };
+        let module = import.split(" as ").next().unwrap_or_default();
+        let module = module.split(".{").next().unwrap_or_default();
+        let file = module.rsplit('.').next().unwrap_or_default();
+        let is_contract = file == "Reads" || file.starts_with(|c: char| c.is_lowercase());
+        let is_source = module.contains(DECLARED) || is_contract;
+        if is_named && !is_source {
+            files.insert(format!("crates/{}.antt", module.replace('.', "/")));
+        }
+    }
+    files
+}
+
+/// The page's statements: each claim from its name to where its proof begins.
+fn statements(page: &str) -> String {
+    let (mut statements, mut name) = (String::new(), None);
+    for line in page.lines() {
+        if let Some(claim) = line.strip_prefix("pub ") {
+            name = claim.split_whitespace().next();
+        } else if name.is_some_and(|name| line.starts_with(&format!("{name} "))) || line.starts_with("unfolding") {
+            name = None;
+        }
+        if name.is_some() {
+            statements += line;
+            statements.push('\n');
+        }
+    }
+    statements
 }
 
 fn read_modules(crates: &Path) -> io::Result<BTreeMap<String, Module>> {

@@ -1,18 +1,24 @@
-//! What each public function of `crates/*/src` promises: an `ensures`, no `requires`, and a law in
-//! its crate's `proofs/Results.antt` that its contract allows one result. The law has the function's
-//! name, with hyphens, and speaks of the reading of that contract. Fails on each that lacks one and
-//! isn't among the exceptions of `docs/PROMISES.md`, and on an exception that nothing needs.
+//! What each public function of `crates/*/src` promises. Each has an `ensures`, no `requires`, and a
+//! law in its crate's `proofs/Results.antt` that its contract allows one result: the law has the
+//! function's name, with hyphens, and speaks of the reading of that contract. Its row in
+//! `docs/PROMISES.md` names the definitions that its `ensures` is made of, and no others. Fails on
+//! each that lacks one of these and isn't among that paper's exceptions, and on an exception that
+//! nothing needs. With `--table` it writes every public function's signature and contract instead,
+//! word for word and with the homes of the names in it, for the gate to compare with what landed.
 
+mod promised;
+mod publics;
+
+use publics::Public;
 use std::collections::BTreeSet;
+use std::env;
 use std::fs;
 use std::io;
-use std::path::{Path, PathBuf};
+use std::path::Path;
 use std::process::ExitCode;
 
 /// Where the exceptions stand, below the heading of that name.
 const PROMISES: &str = "docs/PROMISES.md";
-/// What may stand between `pub` and `fn`.
-const QUALIFIERS: [&str; 4] = ["const", "unsafe", "extern", "\"C\""];
 /// How a law speaks of a contract: of the result, or of the result and of a buffer lent by `&mut`.
 const OF_RESULT: &str = "OneResult (λ x. ";
 const OF_BUFFER: &str = "OneOutcome (λ x o. ";
@@ -25,10 +31,8 @@ struct Function {
 }
 
 fn main() -> ExitCode {
-    let read = functions(Path::new("crates"))
-        .and_then(|functions| Ok((functions, fs::read_to_string(PROMISES)?)));
-    match read {
-        Ok((functions, promises)) => report(&functions, &exceptions(&promises)),
+    match run() {
+        Ok(status) => status,
         Err(error) => {
             eprintln!("contracts: {error}");
             ExitCode::FAILURE
@@ -36,144 +40,55 @@ fn main() -> ExitCode {
     }
 }
 
-/// The public functions of all crates, in the order of their paths.
-fn functions(crates: &Path) -> io::Result<Vec<Function>> {
-    let mut functions = Vec::new();
-    for folder in listed(crates)? {
-        let room = name_of(&folder);
-        let results = fs::read_to_string(folder.join("proofs/Results.antt")).unwrap_or_default();
-        for file in sources(&folder.join("src"))? {
-            let text = without_comments(&fs::read_to_string(&file)?);
-            for (start, name) in public(&text) {
-                let path = path_of(&room, &folder.join("src"), &file, name);
-                let line = text[..start].lines().count();
-                let place = format!("{}, line {line}", file.display());
-                let (parameters, rest) = parameters(&text[start..]);
-                let mut lacks = lacks_in_contract(rest);
-                let form = if parameters.contains("&mut") { OF_BUFFER } else { OF_RESULT };
-                if !has_law(&results, &path, form) && !has_walked_law(&results, &path) {
-                    lacks.push(law_wanted(&room, &path, form));
-                }
-                functions.push(Function { path, place, lacks });
-            }
-        }
+fn run() -> io::Result<ExitCode> {
+    let publics = publics::functions(Path::new("crates"))?;
+    if env::args().nth(1).as_deref() == Some("--table") {
+        print!("{}", promised::table(&publics));
+        return Ok(ExitCode::SUCCESS);
     }
-    Ok(functions)
+    let promises = fs::read_to_string(PROMISES)?;
+    let functions: Vec<Function> = publics.iter().map(|p| function(p, &promises)).collect();
+    Ok(report(&functions, &exceptions(&promises)))
 }
 
-fn listed(folder: &Path) -> io::Result<Vec<PathBuf>> {
-    let mut paths = Vec::new();
-    for entry in fs::read_dir(folder)? {
-        paths.push(entry?.path());
-    }
-    paths.sort();
-    Ok(paths)
-}
-
-/// The files of code in a folder and below it.
-fn sources(folder: &Path) -> io::Result<Vec<PathBuf>> {
-    let mut files = Vec::new();
-    for path in listed(folder)? {
-        if path.is_dir() {
-            files.extend(sources(&path)?);
-        } else if path.extension().is_some_and(|extension| extension == "rt") {
-            files.push(path);
-        }
-    }
-    Ok(files)
-}
-
-/// The last name of a path, without its ending.
-fn name_of(path: &Path) -> String {
-    path.file_stem().unwrap_or_default().to_string_lossy().into_owned()
-}
-
-/// The code alone, its lines in their places, so that a comment can't pass for a contract.
-fn without_comments(text: &str) -> String {
-    let (mut code, mut rest) = (String::new(), text);
-    while let Some(at) = rest.find("/*").into_iter().chain(rest.find("//")).min() {
-        let (before, comment) = rest.split_at(at);
-        let is_block = comment.starts_with("/*");
-        let end = if is_block { comment.find("*/").map(|end| end + 2) } else { comment.find('\n') };
-        let (comment, after) = comment.split_at(end.unwrap_or(comment.len()));
-        code.push_str(before);
-        code.extend(comment.matches('\n'));
-        rest = after;
-    }
-    code + rest
-}
-
-/// The public functions of a text: where each name begins, and the name.
-fn public(text: &str) -> Vec<(usize, &str)> {
-    let heads = text.match_indices("fn ").filter(|(at, _)| is_public(&text[..*at]));
-    let names = heads.map(|(at, head)| {
-        let start = at + head.len();
-        let end = text[start..].find(|c: char| !c.is_alphanumeric() && c != '_');
-        (start, &text[start..end.map_or(text.len(), |end| start + end)])
-    });
-    names.collect()
-}
-
-fn is_public(before: &str) -> bool {
-    let is_word = before.ends_with(char::is_whitespace);
-    let word = before.split_whitespace().rev().find(|word| !QUALIFIERS.contains(word));
-    is_word && word == Some("pub")
-}
-
-/// `cluster::sets::within` for `within` in `crates/cluster/src/sets.rt`.
-fn path_of(room: &str, src: &Path, file: &Path, name: &str) -> String {
-    let below = file.strip_prefix(src).unwrap_or(file).with_extension("");
-    let modules = below.iter().map(|part| part.to_string_lossy()).filter(|part| part != "lib");
-    let mut path = room.to_string();
-    for module in modules {
-        path = format!("{path}::{module}");
-    }
-    format!("{path}::{name}")
-}
-
-/// A function's parameters, and what follows them.
-fn parameters(text: &str) -> (&str, &str) {
-    let (_, inside) = text.split_once('(').unwrap_or_default();
-    let rest = after(inside, '(', ')');
-    (&inside[..inside.len() - rest.len()], rest)
-}
-
-/// What is wrong with a function's clauses, which stand between its parameters and its body.
-fn lacks_in_contract(mut rest: &str) -> Vec<String> {
-    let (mut ensures, mut requires) = (false, false);
-    while let Some((words, block)) = rest.split_once('{') {
-        let word = words.split_whitespace().find(|w| ["ensures", "requires", "fn"].contains(w));
-        match word {
-            Some("ensures") => ensures = true,
-            Some("requires") => requires = true,
-            _ => break,
-        }
-        rest = after(block, '{', '}');
-    }
+fn function(public: &Public, promises: &str) -> Function {
+    let Public { room, path, .. } = public;
+    let results = fs::read_to_string(format!("crates/{room}/proofs/Results.antt"));
+    let results = laws_alone(&results.unwrap_or_default());
     let mut lacks = Vec::new();
-    if !ensures {
+    if public.ensures.is_empty() {
         lacks.push("has no `ensures`; promise what it returns".to_string());
     }
-    if requires {
+    if !public.requires.is_empty() {
         lacks.push("has a `requires`; take any argument and refuse it instead".to_string());
     }
-    lacks
+    let form = if public.parameters.contains("&mut") { OF_BUFFER } else { OF_RESULT };
+    if !has_law(&results, path, form) && !has_walked_law(&results, path) {
+        lacks.push(law_wanted(room, path, form));
+    }
+    lacks.extend(promised::lacks_in_row(public, promises));
+    Function { path: path.clone(), place: public.place.clone(), lacks }
 }
 
-/// What follows the bracket that closes one opened before the text.
-fn after(text: &str, open: char, close: char) -> &str {
-    let mut depth = 1;
-    for (at, character) in text.char_indices() {
-        if character == open {
-            depth += 1;
-        } else if character == close {
-            depth -= 1;
-        }
-        if depth == 0 {
-            return &text[at + close.len_utf8()..];
+/// A file of laws without its comments: `--` to the line's end, and `{-` to `-}`, one in another too.
+fn laws_alone(text: &str) -> String {
+    let (mut laws, mut rest, mut depth) = (String::new(), text, 0);
+    while let Some(first) = rest.chars().next() {
+        let opens = rest.starts_with("{-");
+        let closes = depth > 0 && rest.starts_with("-}");
+        if depth == 0 && rest.starts_with("--") {
+            rest = &rest[rest.find('\n').unwrap_or(rest.len())..];
+        } else if opens || closes {
+            depth = if opens { depth + 1 } else { depth - 1 };
+            rest = &rest[2..];
+        } else {
+            if depth == 0 {
+                laws.push(first);
+            }
+            rest = &rest[first.len_utf8()..];
         }
     }
-    ""
+    laws
 }
 
 /// A law's name for a function's path, and the line that brings the reading of its contract.
