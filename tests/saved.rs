@@ -36,7 +36,7 @@ const REPORT: u8 = 4;
 type FirstFields = [u8; 2];
 type ServerFields = [u8; 16];
 type EntryFields = [u8; 9];
-/// Whose it is or who sent it, and the note.
+/// Whose it is or whom it is about, and the note.
 type NoteFields = [u8; 7];
 
 /// The text of a record; one that isn't well formed has none.

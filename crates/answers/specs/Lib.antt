@@ -1,3 +1,3 @@
--- Answer frames as 01 lays them out. Assumes nothing.
+-- Answer frames as 01 lays them out, with 02's refusals. Assumes nothing.
 pub mod Answers
 pub mod Ranges

@@ -1,4 +1,4 @@
--- Which records are well formed, as 01 words it. Assumes nothing.
+-- Which records are well formed, as 01 words it, and 02 for notes, queues and sources. Assumes nothing.
 use mathlib.Core.Bool.{Bool, true, cond, not, _&&_}
 use Prim.Native.Nat.{ℕ}
 use lib.Dec.{eqb, ltb, leb}

@@ -1,4 +1,4 @@
--- Step frames as 01 lays them out. Assumes nothing.
+-- Step frames as 01 lays them out, with 02's kinds. Assumes nothing.
 pub mod Layout
 pub mod Kinds
 pub mod Steps

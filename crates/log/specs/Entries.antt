@@ -33,7 +33,7 @@ appliedTime es = entryAt es (length es) .time
 unfoldable pub equalAt : List Entry → List Entry → ℕ → Bool
 equalAt xs ys n = leb 1 n && (leb n (length xs) && (leb n (length ys) && sameEntry (entryAt xs n) (entryAt ys n)))
 
--- there is an entry of that term at position n
+-- there is an entry of that term at position n; at position 0 stands the zero entry, of term 0, which nobody may ask for (`mayAsk`)
 unfoldable pub hasEntry : List Entry → ℕ → ℕ → Bool
 hasEntry es n term = leb n (length es) && eqb (entryAt es n .term) term
 

@@ -13,7 +13,7 @@ use Rattle.log.specs.Entries.{zeroEntry}
 abbrev pub logLimit : ℕ
 logLimit = 32
 
--- positions that can be asked for go to 32
+-- positions that can be asked for, and lengths in notes and reports, go to 32
 abbrev pub highestPosition : ℕ
 highestPosition = 32
 

@@ -1,4 +1,4 @@
--- Which logs a well-formed record may hold, as 01 words it. Assumes nothing.
+-- Which logs a well-formed record may hold, as 01 words it, and 02 for entries that write nothing. Assumes nothing.
 use mathlib.Core.List.{List}
 use mathlib.Core.Bool.{Bool, _&&_, _||_}
 use Prim.Native.Nat.{ℕ, suc}

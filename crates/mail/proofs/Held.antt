@@ -58,7 +58,7 @@ module _ (m : Mail) (r : Report) where
   unfolding noted
   noted-source = refl
 
-  -- a note afterwards is the one before, or what the report says, at the number of who sent it
+  -- a note afterwards is the one before, or what the report says, at the number of the server that it is about
   pub noted-held : (j : ℕ) → (noteAt (noted m r) j ≡ noteAt m j) ⊎ ((noteAt (noted m r) j ≡ noteOf r) × (j ≡ r .who))
   noted-held j = go (givesWay (noteAt m (r .who)) (noteOf r)) refl
     where

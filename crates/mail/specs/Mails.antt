@@ -14,7 +14,7 @@ use Rattle.mail.specs.Queues.{emptyQueue, queued, oldestTaken}
 abbrev pub noteSlots : ℕ
 noteSlots = 7
 
--- the source is none, which is 0, or a server, which is its number and 1
+-- the source is none, which is 0, or a server, which is its number plus 1
 abbrev pub zeroMail : Mail
 zeroMail = record { notes = replicate noteSlots zeroNote; queue = emptyQueue; source = 0 }
 
@@ -31,7 +31,7 @@ withQueue m q = record { notes = m .notes; queue = q; source = m .source }
 abbrev pub withSource : Mail → ℕ → Mail
 withSource m s = record { notes = m .notes; queue = m .queue; source = s }
 
--- the note of who sent a report gives way to it where it is greater
+-- the note of the server that a report is about gives way to it where it is greater
 unfoldable pub noted : Mail → Report → Mail
 noted m r = withNotes m (set (m .notes) (r .who) (cond (givesWay (noteAt m (r .who)) (noteOf r)) (noteOf r) (noteAt m (r .who))))
 

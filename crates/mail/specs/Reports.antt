@@ -11,7 +11,7 @@ zeroReport = record { who = 0; term = 0; last = 0; len = 0 }
 abbrev pub zeroNote : Note
 zeroNote = record { term = 0; last = 0; len = 0 }
 
--- what a report says, as a note of who sent it
+-- what a report says, as a note of the server that it is about
 abbrev pub noteOf : Report → Note
 noteOf r = record { term = r .term; last = r .last; len = r .len }
 

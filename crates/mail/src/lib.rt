@@ -26,7 +26,7 @@ pub struct Queue {
     pub len: usize,
 }
 
-// The source is 0 for none, and a server's number and 1 otherwise.
+// The source is 0 for none, and a server's number plus 1 otherwise.
 pub struct Mail {
     pub notes: [Note; NOTE_SLOTS],
     pub queue: Queue,

@@ -12,8 +12,8 @@ use Rattle.steps.specs.declared.Refusal.the-variants.{OutOfRange, NoSuchEntry, 
 use Rattle.steps.specs.Refusals.{Rules, decided}
 use Rattle.steps.specs.Answers.{refusing}
 
--- counts above 0 are retired, whatever the server has; one past the server count is out of range. Refusal 8 is considered only where 10
--- doesn't apply
+-- asked with the count k about position n and a term. Counts above 0 are retired, whatever the server has; one past the server count is out of
+-- range. Refusal 8 is considered only where 10 doesn't apply
 abbrev pub acknowledgeRules : ℕ → Server → ℕ → ℕ → ℕ → Rules
 acknowledgeRules size s k n term =
     (leb k size, OutOfRange)

@@ -40,7 +40,7 @@ use Rattle.counts.specs.Advances.{passes, highestPassing, advanceDone}
 use Rattle.wholes.specs.Starts.{startRules}
 use Rattle.wholes.specs.ClocksAgree.{greatestClock}
 use Rattle.pairs.specs.Reports.{reportOf, sentOf}
-use Rattle.singles.specs.TakesReport.{takeRules, oldestOf, keepsIt, forwards, takeDone}
+use Rattle.singles.specs.TakesReport.{takeRules, oldestOf, goesNoFurther, forwards, takeDone}
 use Rattle.rules.specs.Rules.{delivered, putBack, rowOf, rulesOf, doneOf, isStart, stepOf}
 use Rattle.rules.proofs.Outcomes.{step-done, StepDone, step-cases}
 use Rattle.rules.proofs.Others.{or-neither, voted-inside, voted-outside, clocked-counted, clocked-past}
@@ -137,7 +137,7 @@ sent-sound h a b s la lb ne new =
 -- the oldest report, taken and sent on to the source where there is one
 took-report : {c : Cluster} → Sound c → (a : ℕ) → a < c .count → Clear (takeRules (serverAt c a)) → Sound (putBack c a (takeDone (serverAt c a)) .cluster)
 unfolding forwards delivered
-took-report {c} h a l k = go (keepsIt s) refl
+took-report {c} h a l k = go (goesNoFurther s) refl
   where
     s : Server
     s = serverAt c a
@@ -148,7 +148,7 @@ took-report {c} h a l k = go (keepsIt s) refl
     d : Sound (withServer c a (takeDone s .server))
     d = replaced-sound h a _ l (taken-sound x k)
 
-    go : (b : Bool) → keepsIt s ≡ b → Sound (delivered (withServer c a (takeDone s .server)) (cond b Nothing (To (s .mail .source - 1) (oldestOf s))))
+    go : (b : Bool) → goesNoFurther s ≡ b → Sound (delivered (withServer c a (takeDone s .server)) (cond b Nothing (To (s .mail .source - 1) (oldestOf s))))
     go true e = d
     go false e =
         let some = leb-true 1 (s .mail .queue .len) (k .0) in

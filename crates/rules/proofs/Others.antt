@@ -27,7 +27,7 @@ use Rattle.steps.specs.declared.Sends.{Sends}
 use Rattle.steps.specs.declared.Sends.the-variants.{Nothing, To}
 use Rattle.wholes.specs.Elects.{newTerm}
 use Rattle.wholes.specs.ClocksAgree.{greatestClock}
-use Rattle.singles.specs.TakesReport.{oldestOf, keepsIt, forwards}
+use Rattle.singles.specs.TakesReport.{oldestOf, goesNoFurther, forwards}
 use Rattle.rules.specs.Rules.{delivered, rowOf, doneOf, isStart, stepOf}
 use Rattle.rules.proofs.Outcomes.{step-cases}
 use Rattle.rules.specs.Statements.{touches}
@@ -131,12 +131,12 @@ sent-others c a b s r i e =
 forwarded-others : (c : Cluster) (a : ℕ) (s : Server) (i : ℕ) → (eqb i a || eqb (suc i) (serverAt c a .mail .source)) ≡ false
     → serverAt (delivered (withServer c a s) (forwards (serverAt c a))) i ≡ serverAt c i
 unfolding forwards delivered
-forwarded-others c a s i e = go (keepsIt (serverAt c a)) refl
+forwarded-others c a s i e = go (goesNoFurther (serverAt c a)) refl
   where
     n : (eqb i a ≡ false) × (eqb (suc i) (serverAt c a .mail .source) ≡ false)
     n = or-neither (eqb i a) (eqb (suc i) (serverAt c a .mail .source)) e
 
-    go : (b : Bool) → keepsIt (serverAt c a) ≡ b
+    go : (b : Bool) → goesNoFurther (serverAt c a) ≡ b
         → serverAt (delivered (withServer c a s) (cond b Nothing (To (serverAt c a .mail .source - 1) (oldestOf (serverAt c a))))) i ≡ serverAt c i
     go true k = replaced-others c a s i (eqb-false i a (n .0))
     go false k =

@@ -23,15 +23,15 @@ takeRules s = (leb 1 (s .mail .queue .len), ConditionUnmet) ∷ []
 abbrev pub oldestOf : Server → Report
 oldestOf s = reportAt (s .mail .queue) 0
 
--- a primary keeps it, and so does a server without a source
-abbrev pub keepsIt : Server → Bool
-keepsIt s = s .head .primary || eqb (s .mail .source) 0
+-- at a primary a report goes no further, and at a server without a source it is dropped
+abbrev pub goesNoFurther : Server → Bool
+goesNoFurther s = s .head .primary || eqb (s .mail .source) 0
 
 -- the same report, to the source
 unfoldable pub forwards : Server → Sends
-forwards s = cond (keepsIt s) Nothing (To (s .mail .source - 1) (oldestOf s))
+forwards s = cond (goesNoFurther s) Nothing (To (s .mail .source - 1) (oldestOf s))
 
--- it leaves the queue, and the note of who sent it gives way to it where it is greater
+-- it leaves the queue, and the note of the server that it is about gives way to it where it is greater
 abbrev pub takeDone : Server → Stepped
 takeDone s = record { server = withMail s (taken (noted (s .mail) (oldestOf s))); answer = Done; sends = forwards s }
 

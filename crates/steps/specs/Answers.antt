@@ -1,4 +1,4 @@
--- What a step gives, and 01's number and values for each case of an answer. Assumes nothing.
+-- What a step gives, and 01's and 02's number and values for each case of an answer. Assumes nothing.
 use Prim.Native.Nat.{ℕ, _%_}
 use Rattle.clock.specs.Times.{zeroTime}
 use Rattle.cluster.specs.declared.Server.{Server}

@@ -1,4 +1,4 @@
--- The fields that each kind of step fills, in the order of 01's step frame. Assumes nothing.
+-- The fields that each kind of step fills, 02's kinds too, in the order of 01's step frame. Assumes nothing.
 use Prim.Native.Nat.{ℕ}
 use Rattle.clock.specs.declared.Time.{Time}
 use Rattle.clock.specs.Times.{zeroTime}
