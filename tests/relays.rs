@@ -15,12 +15,13 @@ impl Run {
 
     /// One of the rounds below, the longest least often.
     pub(super) fn relay(&mut self) {
-        match self.prng.below(11) {
+        match self.prng.below(13) {
             0 => self.flood(),
             1 | 2 => self.row(),
             3 | 4 => self.circle(),
             5 | 6 => self.outlast(),
             7 | 8 => self.mislead(),
+            9 | 10 => self.raise(),
             _ => self.detour(),
         }
     }
@@ -187,6 +188,33 @@ impl Run {
         for &a in &others[1..] {
             self.come_after(a, new);
         }
+        self.offer(Step::StepDown { a: new });
+        self.take_in(new);
+        self.take_in(old);
+        self.say(Step::Advances { a: old });
+    }
+
+    /// A primary hears of its entries from a server that was in its term until it got them: in that
+    /// term it would make up the majority. Fewer than five can't elect the next without both.
+    fn raise(&mut self) {
+        if self.count() < 5 {
+            return self.outlast();
+        }
+        let everyone = self.everyone();
+        let raised = self.elect_of(everyone);
+        if self.prng.one_in(2) {
+            self.offer_entry(raised);
+        }
+        let old = self.elect_of(everyone & !(1 << raised));
+        self.some_entry(old);
+        self.offer(Step::Hears { a: raised, b: old });
+        let others = self.others(&[old, raised]);
+        for &a in &others[..self.count() / 2 - 1] {
+            self.come_after(a, old);
+        }
+        let new = others[0];
+        self.elect_by(new, everyone & !(1 << old | 1 << raised));
+        self.come_after(raised, new);
         self.offer(Step::StepDown { a: new });
         self.take_in(new);
         self.take_in(old);

@@ -20,8 +20,9 @@ pub struct Taken<'a> {
     pub answer: Answer,
     pub before: &'a Cluster,
     pub after: &'a Cluster,
-    /// How often the report that was taken has now been passed on, if it was this time.
-    pub passed_on: usize,
+    /// That of the report that was sent, or taken: as if it was passed on this time.
+    pub trail: Trail,
+    pub trails: &'a Trails,
     pub strays: &'a Strays,
 }
 
@@ -75,14 +76,16 @@ const SIGHTS: &[Sight] = &[
     (7, DONE, "below what most hold", |t| t.held_by_most() > Some(t.a_after().commit_point)),
     (7, NONE_PASSES, "but is held by most", |t| t.held_by_most().is_some()),
     (7, NONE_PASSES, "but for notes of an older term", |t| {
-        t.passes_with(|note| note.term < t.a().term)
+        t.passes_with(|_, note| note.term < t.a().term)
     }),
     (7, NONE_PASSES, "but for notes of a later term", |t| {
-        t.passes_with(|note| note.term > t.a().term && note.last_term == t.a().term)
+        t.passes_with(|_, note| note.term > t.a().term && note.last_term == t.a().term)
     }),
     (7, NONE_PASSES, "but for notes of an older last term", |t| {
-        t.passes_with(|note| note.term == t.a().term && note.last_term < note.term)
+        t.passes_with(|_, note| note.term == t.a().term && note.last_term < note.term)
     }),
+    (7, NONE_PASSES, "but for terms that pulls raised", |t| t.passes_unraised(4)),
+    (7, NONE_PASSES, "but for terms that rollbacks raised", |t| t.passes_unraised(5)),
     (9, DONE, "with notes to empty", |t| has_notes(t.a())),
     (9, DONE, "with reports to empty", |t| has_reports(t.a())),
     (9, DONE, "with a source to forget", |t| t.a().source.is_some()),
@@ -99,8 +102,8 @@ const SIGHTS: &[Sight] = &[
     (16, DONE, "with nowhere to go", |t| t.a().role == Secondary && t.a().source.is_none()),
     (16, DONE, "passed on to a full queue", |t| t.next().is_some_and(|b| b.queue.is_full())),
     (16, DONE, "passed on to a primary", |t| t.next().is_some_and(|b| b.role == Primary)),
-    (16, DONE, "passed on a second time", |t| t.next().is_some() && t.passed_on == 2),
-    (16, DONE, "passed on a third time", |t| t.next().is_some() && t.passed_on == 3),
+    (16, DONE, "passed on a second time", |t| t.next().is_some() && t.trail.passed_on == 2),
+    (16, DONE, "passed on a third time", |t| t.next().is_some() && t.trail.passed_on == 3),
     (16, DONE, "passed on round a loop", |t| {
         t.next().is_some_and(|b| b.passes_on_to() == Some(t.number()))
     }),
@@ -108,6 +111,8 @@ const SIGHTS: &[Sight] = &[
     (16, DONE, "about the primary", |t| t.a().role == Primary && t.reported() == t.number()),
     (16, DONE, "about one restarted since", |t| t.before.servers[t.reported()].source.is_none()),
     (16, DONE, "of a later term", |t| t.report().note.term > t.a().term),
+    (16, DONE, "of a term that its pull raised", |t| t.takes_raised(4)),
+    (16, DONE, "of a term that its rollback raised", |t| t.takes_raised(5)),
     (16, DONE, "a primary's note rises by term", |t| t.primary_notes(Greater, Term)),
     (16, DONE, "a primary's note rises by last term", |t| t.primary_notes(Greater, LastTerm)),
     (16, DONE, "a primary's note rises by length", |t| t.primary_notes(Greater, Length)),
@@ -230,24 +235,32 @@ impl Taken<'_> {
     }
 
     /// How many back a position: a, and every other counted server of which this holds.
-    fn backers(&self, backs: impl Fn(&Server, &Note) -> bool) -> usize {
-        let others = self.before.counted().iter().zip(&self.a().notes).enumerate();
-        1 + others.filter(|(i, (b, note))| *i != self.number() && backs(b, note)).count()
+    fn backers(&self, backs: impl Fn(usize, &Note) -> bool) -> usize {
+        let others = self.a().notes[..self.before.count].iter().enumerate();
+        1 + others.filter(|(b, note)| *b != self.number() && backs(*b, note)).count()
     }
 
     /// Whether the new commit point would have passed if only such servers' notes counted.
     fn passes_by(&self, counts: impl Fn(&Server) -> bool) -> bool {
         let (term, position) = (self.a().term, self.a_after().commit_point);
-        let backers = self.backers(|b, note| note.reaches(term, position) && counts(b));
+        let servers = &self.before.servers;
+        let backers = self.backers(|b, note| note.reaches(term, position) && counts(&servers[b]));
         self.before.is_majority(backers)
     }
 
-    /// Whether something would pass if such notes counted as well.
-    fn passes_with(&self, counts: impl Fn(&Note) -> bool) -> bool {
+    /// Whether something would pass if such notes of these servers counted as well.
+    fn passes_with(&self, counts: impl Fn(usize, &Note) -> bool) -> bool {
         let term = self.a().term;
-        let backs =
-            |note: &Note, n: usize| note.reaches(term, n) || counts(note) && note.length >= n;
-        self.highest(|n| self.backers(|_, note| backs(note, n))).is_some()
+        let counted = |b: usize, note: &Note, n: usize| counts(b, note) && note.length >= n;
+        let backs = |b: usize, note: &Note, n: usize| note.reaches(term, n) || counted(b, note, n);
+        self.highest(|n| self.backers(|b, note| backs(b, note, n))).is_some()
+    }
+
+    /// Whether something would pass if reports carried the term from before steps of this kind.
+    fn passes_unraised(&self, kind: u8) -> bool {
+        let (term, trails) = (self.a().term, &self.trails.noted[self.number()]);
+        let was_here = |trail: &Trail| (trail.kind, trail.term) == (kind, term);
+        self.passes_with(|b, note| was_here(&trails[b]) && note.last_term == term)
     }
 }
 
@@ -259,6 +272,11 @@ impl Taken<'_> {
 
     fn reported(&self) -> usize {
         self.report().who
+    }
+
+    /// Whether the step of this kind that it was sent after had raised its term.
+    fn takes_raised(&self, kind: u8) -> bool {
+        self.trail.kind == kind && self.trail.term < self.report().note.term
     }
 
     /// Whom it is passed on to, lost there or not.
@@ -285,22 +303,56 @@ impl Taken<'_> {
     }
 }
 
-/// Beside each queue, how often each report in it was passed on.
-pub struct Trails([Vec<usize>; SERVERS]);
+/// How often a report was passed on, the kind of the step that it was sent after, and the term that
+/// its server was in before that.
+#[derive(Clone, Copy)]
+pub struct Trail {
+    passed_on: usize,
+    kind: u8,
+    term: u16,
+}
+
+impl Trail {
+    pub const NONE: Trail = Trail { passed_on: 0, kind: 0, term: 0 };
+}
+
+/// Beside each queue and each server's notes, the trails of the reports there.
+pub struct Trails {
+    waiting: [Vec<Trail>; SERVERS],
+    noted: [[Trail; SERVERS]; SERVERS],
+}
 
 impl Trails {
-    pub const NONE: Trails = Trails([const { Vec::new() }; SERVERS]);
+    pub const NONE: Trails = Trails {
+        waiting: [const { Vec::new() }; SERVERS],
+        noted: [[Trail::NONE; SERVERS]; SERVERS],
+    };
 
     /// Follows a step that was done, which lengthens one queue by one report at most, or empties
-    /// queues. Gives how often a report that it took has been passed on, if it was.
-    pub fn follow(&mut self, step: &Step, after: &Cluster) -> usize {
-        let passed_on = match step {
-            Step::TakesReport { a } => 1 + self.0[usize::from(*a)].remove(0),
-            _ => 0,
+    /// queues. Gives the trail of the report that it sent or took.
+    pub fn follow(&mut self, step: &Step, [before, after]: [&Cluster; 2]) -> Trail {
+        let trail = match *step {
+            Step::Pulls { a, .. } | Step::RollsBack { a, .. } => {
+                let term = before.servers[usize::from(a)].term;
+                Trail { passed_on: 0, kind: step.kind(), term }
+            }
+            Step::TakesReport { a } => self.take(a.into(), [before, after]),
+            _ => Trail::NONE,
         };
-        for (trail, server) in self.0.iter_mut().zip(&after.servers) {
-            trail.resize(server.queue.length, passed_on);
+        for (trails, server) in self.waiting.iter_mut().zip(&after.servers) {
+            trails.resize(server.queue.length, trail);
         }
-        passed_on
+        trail
+    }
+
+    /// The trail of the report that a takes, which stays beside the note if there is a new one.
+    fn take(&mut self, a: usize, [before, after]: [&Cluster; 2]) -> Trail {
+        let taken = self.waiting[a].remove(0);
+        let trail = Trail { passed_on: 1 + taken.passed_on, ..taken };
+        let who = before.servers[a].queue.reports[0].who;
+        if after.servers[a].notes[who] != before.servers[a].notes[who] {
+            self.noted[a][who] = trail;
+        }
+        trail
     }
 }

@@ -2,7 +2,7 @@
 //! whether everything that lines can reach was reached.
 
 use crate::model::{Answer, CONDITIONS, Cluster, Condition, Condition::*, KINDS, Step};
-use crate::sights::{COUNT, Sight, Strays, Taken, Trails, sights};
+use crate::sights::{COUNT, Sight, Strays, Taken, Trail, Trails, sights};
 use std::io::{self, Write};
 
 /// One row a kind, and a last one for lines that are no frame.
@@ -142,8 +142,10 @@ impl Tally {
             Err(condition) => self.refused[row][condition as usize] += 1,
         }
         let Some(step) = step else { return };
-        let passed_on = if answer.is_ok() { self.trails.follow(&step, after) } else { 0 };
-        let taken = Taken { step, answer, before, after, passed_on, strays: &self.strays };
+        let both = [before, after];
+        let trail = answer.map_or(Trail::NONE, |_| self.trails.follow(&step, both));
+        let (trails, strays) = (&self.trails, &self.strays);
+        let taken = Taken { step, answer, before, after, trail, trails, strays };
         for (times, (kind, ended, _, is_seen)) in self.seen.iter_mut().zip(sights()) {
             let applies = *kind == row && *ended == answer.map(|_| ());
             *times += u64::from(applies && is_seen(&taken));
