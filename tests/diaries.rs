@@ -4,7 +4,7 @@
 use super::Run;
 use crate::honest::{honest, text_of};
 use crate::lies::lies;
-use crate::model::{AHEAD_MAX, Numbers, Step, Time};
+use crate::model::{AHEAD_MAX, ENTRIES, Numbers, Step, Time};
 use crate::texts::write_texts;
 use std::{fs, io};
 
@@ -37,7 +37,8 @@ pub fn write_diaries(seed: u64, lines: usize, most: usize, folder: &str) -> io::
 }
 
 impl Run {
-    /// About so many lines; in some runs others come before the start, or a whole session.
+    /// About so many lines; in some runs others come before the start, or a whole session. In most
+    /// the first or the last server alone covers what is covered last: nothing spreads after that.
     pub(super) fn diaries(&mut self, lines: usize) {
         match self.prng.below(6) {
             0 => self.before_first_start(),
@@ -46,7 +47,9 @@ impl Run {
         }
         self.begin();
         let mut phones = [0; PHONES].map(|_| Phone::NEW);
-        while self.written < lines {
+        let last = self.count() as u8 - 1;
+        let alone = self.prng.pick(&[None, Some(0), Some(last), Some(0), Some(last)]);
+        while self.written < lines && !(alone.is_some() && self.is_nearly_full()) {
             let phone = &mut phones[self.prng.below(PHONES)];
             match self.prng.below(16) {
                 0..=6 => self.visit(phone),
@@ -54,6 +57,13 @@ impl Run {
                 8 => self.lose(phone),
                 _ => self.go_on(),
             }
+        }
+        if let Some(a) = alone {
+            self.cover_alone(&mut phones[0], a);
+        }
+        while self.written < lines {
+            let phone = self.prng.below(PHONES);
+            self.visit(&mut phones[phone]);
         }
         self.last_line();
     }
@@ -136,6 +146,26 @@ impl Run {
         self.follow(a);
         self.take_in(a);
         self.offer(Step::Advances { a });
+    }
+
+    /// Whether a log has room for hardly more than one write.
+    fn is_nearly_full(&self) -> bool {
+        self.cluster.counted().iter().any(|server| server.log.length + 2 >= ENTRIES)
+    }
+
+    /// A server covers a phone's write, and nobody hears of that.
+    fn cover_alone(&mut self, phone: &mut Phone, a: u8) {
+        self.promote(a);
+        self.phone_writes(phone, a);
+        for b in (0..self.count() as u8).filter(|&b| b != a) {
+            self.catch_up(b, a);
+        }
+        while self.at(a).queue.length > 0 {
+            self.offer(Step::TakesReport { a });
+        }
+        self.offer(Step::Advances { a });
+        self.phone_asks(phone, a);
+        self.phone_reads(phone, a);
     }
 
     /// A phone writes at a primary that has just lost an election, and is told that it isn't

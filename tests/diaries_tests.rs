@@ -155,7 +155,7 @@ fn end_of(number: usize, verdict: Verdict) -> End {
 }
 
 /// How many of a hundred of a sort end so at least.
-const ENDS: [(&str, End, usize); 33] = [
+const ENDS: [(&str, End, usize); 35] = [
     ("value", Named, 100),
     ("time", Named, 100),
     ("key", Named, 100),
@@ -188,6 +188,8 @@ const ENDS: [(&str, End, usize); 33] = [
     ("again", Accepted, 100),
     ("read-position", Accepted, 100),
     ("full", Accepted, 100),
+    ("first", Accepted, 100),
+    ("last", Accepted, 100),
     ("unended", Accepted, 100),
 ];
 

@@ -2,15 +2,16 @@
 //! asked with the latest time it had seen, and an answered write when it is acknowledged.
 
 use crate::lines::{read_line, write_bytes};
-use crate::model::{Cluster, Entry, Numbers, Step, Time, step};
+use crate::model::{Cluster, Entry, Numbers, SERVERS, Step, Time, step};
 use crate::prng::Prng;
 use crate::records::{Covered, READ, RECORD, RECORDS, Record, WRITE, is_written};
 
-/// The records in the order in which they were answered, the log that was covered, and records of
-/// the answered writes that it doesn't have.
+/// The records in the order in which they were answered, the log that was covered, how much of it
+/// each server's commit points covered, and records of the answered writes that it doesn't have.
 pub struct Honest {
     pub records: Vec<Record>,
     pub log: Vec<Entry>,
+    pub reached: Vec<usize>,
     pub lost: Vec<Record>,
 }
 
@@ -20,11 +21,13 @@ pub const LATEST: Time = Time { p: u16::MAX, l: u16::MAX };
 const SESSIONS: usize = 16;
 
 /// What is recorded since the last start, how late each session has seen, each answered write with
-/// its term, and whether records that tell little are kept too.
+/// its term, how far each server's commit points have come, and whether records that tell little are
+/// kept too.
 struct Keeping {
     records: Vec<Record>,
     sessions: Vec<(u16, Time)>,
     answered: Vec<(u16, Record)>,
+    reached: [usize; SERVERS],
     eager: bool,
 }
 
@@ -38,19 +41,28 @@ pub fn honest(prng: &mut Prng, text: &[u8]) -> Honest {
         covered.follow(&read, answer, &cluster);
         if let Ok(numbers) = answer {
             keeping.follow(prng, &read, numbers);
+            keeping.reach(&cluster);
         }
     }
-    let Keeping { mut records, answered, .. } = keeping;
+    let Keeping { mut records, answered, reached, .. } = keeping;
     records.truncate(RECORDS);
     let writes = answered.into_iter().map(|(_, write)| write);
     let lost = writes.filter(|write| !is_written(&covered.entries, write)).collect();
-    Honest { records, log: covered.entries, lost }
+    let reached = reached[..cluster.count].to_vec();
+    Honest { records, log: covered.entries, reached, lost }
 }
 
 impl Keeping {
     fn new(prng: &mut Prng) -> Keeping {
         let eager = prng.below(2) == 0;
-        Keeping { records: Vec::new(), sessions: Vec::new(), answered: Vec::new(), eager }
+        let (records, sessions, answered) = (Vec::new(), Vec::new(), Vec::new());
+        Keeping { records, sessions, answered, reached: [0; SERVERS], eager }
+    }
+
+    fn reach(&mut self, cluster: &Cluster) {
+        for (reached, server) in self.reached.iter_mut().zip(cluster.counted()) {
+            *reached = server.commit_point.max(*reached);
+        }
     }
 
     /// A session that has seen nothing, mostly with a number that shares a byte with another's.

@@ -16,6 +16,7 @@ The sorts of lies, where one record is another:
     before      a read's value is that from before the entry at its time
     stale       a read is as of an earlier entry, with the value there
     ahead       a read is as of a later entry, with the value there
+    first, last a write that only the first server, or only the last, ever covered
     other-kind  the kind is neither 6 nor 11
     other-key   the key is above 15
 and where the list is another:
@@ -42,7 +43,7 @@ type List = fn(&mut Prng, &Honest, usize) -> Option<(usize, Vec<Record>)>;
 /// Other lines instead of those from a number on.
 type Lines = fn(&mut Prng, &[&[u8]]) -> Option<Vec<u8>>;
 
-const CHANGES: [(&str, Change); 15] = [
+const CHANGES: [(&str, Change); 17] = [
     ("value", |prng, _, record| Some(with_other_value(prng, record))),
     ("time", |prng, honest, record| if_of(WRITE, with_other_time(prng, honest, record))),
     ("read-time", |prng, honest, record| if_of(READ, with_other_time(prng, honest, record))),
@@ -71,6 +72,8 @@ const CHANGES: [(&str, Change); 15] = [
     }),
     ("stale", |prng, honest, record| as_of(prng, honest, record, |other, own| other < own)),
     ("ahead", |prng, honest, record| as_of(prng, honest, record, |other, own| other > own)),
+    ("first", |_, honest, _| covered_alone(honest, 0)),
+    ("last", |_, honest, _| covered_alone(honest, honest.reached.len() - 1)),
 ];
 
 const LISTS: [(&str, List); 9] = [
@@ -285,6 +288,17 @@ fn last_write(honest: &Honest, read: &Record) -> Option<Record> {
     let place = honest.log.iter().rposition(is_seen)?;
     let Entry { key, value, time, .. } = honest.log[place];
     Some(Record { kind: WRITE, key, value, position: place as u16 + 1, time, ..*read })
+}
+
+/// A record of the log's last write, if nobody but this server has ever covered it, under a session
+/// that has no others, so that it is as true wherever it stands.
+fn covered_alone(honest: &Honest, server: usize) -> Option<Record> {
+    let others = honest.reached.iter().enumerate().filter(|(other, _)| *other != server);
+    let covered = others.map(|(_, reached)| *reached).max()?;
+    let is_free = |session: &u16| honest.records.iter().all(|record| record.session != *session);
+    let session = (0..=u16::MAX).find(is_free)?;
+    let any = Record { session, time: LATEST, ..*honest.records.first()? };
+    last_write(honest, &any).filter(|write| usize::from(write.position) > covered)
 }
 
 /// One more record before another, where there is room.

@@ -161,14 +161,8 @@ impl Run {
         if ![NONE_TOO_FAR - 1, NONE_TOO_FAR, NONE_TOO_FAR + 1, 65_000].contains(&wall_clock) {
             return;
         }
-        let everyone = self.everyone();
-        let latest = self.with_most(everyone, |server| (server.log.last_term(), server.log.length));
-        self.offer(Step::StepDown { a });
-        if latest != a {
-            self.come_after(a, latest);
-        }
-        self.elect_by(a, everyone);
-        let new = self.elect_of(everyone & !(1 << a));
+        self.promote(a);
+        let new = self.elect_of(self.everyone() & !(1 << a));
         for client in [Time { p: LAST, l: 7 }, Time { p: LAST, l: LAST }] {
             self.say_write(a, client);
         }

@@ -263,6 +263,17 @@ impl Run {
         a
     }
 
+    /// Has all elect a, after it came after the one whom nobody is ahead of.
+    fn promote(&mut self, a: u8) {
+        let everyone = self.everyone();
+        let latest = self.with_most(everyone, |server| (server.log.last_term(), server.log.length));
+        self.offer(Step::StepDown { a });
+        if latest != a {
+            self.catch_up(a, latest);
+        }
+        self.elect_by(a, everyone);
+    }
+
     fn offer_entry(&mut self, a: u8) {
         let entry = self.entry_by(a);
         self.offer(entry);
@@ -287,6 +298,12 @@ impl Run {
         if !self.offer(Step::Pulls { a, b }) {
             self.offer(Step::RollsBack { a, b });
         }
+    }
+
+    /// The same whatever a line of a refusal is worth.
+    fn catch_up(&mut self, a: u8, b: u8) {
+        self.offer(Step::Pulls { a, b });
+        self.offer(Step::RollsBack { a, b });
     }
 
     /// About half of the servers come after the one they are given.
