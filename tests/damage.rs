@@ -28,6 +28,7 @@ damage --help              writes this
     swapped     a line stands before the one that it followed
     more        a frame with all that it announces stands twice, and one more is announced
     fewer       a frame with all that it announces is left out, and one fewer is announced
+    source      a server's source is itself, one past the count or ff; in the last text it is ff
 and in the first frame of each sort:
     byte        a byte is 00, ff, one more or one less
     byte-cut    a byte is ff, and the last line feed is missing
@@ -74,7 +75,7 @@ fn write_all(mut prng: Prng, most: usize, folder: &str) -> io::Result<()> {
 }
 
 /// Each sort and all its texts.
-fn damaged(text: &[u8], prng: &mut Prng) -> [(&'static str, Vec<Vec<u8>>); 14] {
+fn damaged(text: &[u8], prng: &mut Prng) -> [(&'static str, Vec<Vec<u8>>); 15] {
     let lines: Vec<&[u8]> = text.split_inclusive(|&character| character == b'\n').collect();
     let (lines, places, numbers) = (&lines[..], 0..text.len(), || 0..lines.len());
     let as_crlf: Vec<_> = lines.iter().map(|line| crlf(line)).collect();
@@ -101,6 +102,7 @@ fn damaged(text: &[u8], prng: &mut Prng) -> [(&'static str, Vec<Vec<u8>>); 14] {
         ("zero", firsts().map(|n| zero(lines, n)).chain(alone).collect()),
         ("times", lasts().flat_map(sized).collect()),
         ("times-cut", lasts().flat_map(sized).map(without_end).collect()),
+        ("source", sources(lines)),
     ]
 }
 
@@ -108,6 +110,9 @@ fn without_end(mut text: Vec<u8>) -> Vec<u8> {
     text.pop();
     text
 }
+
+/// Where a server's source stands in its line.
+const SOURCE: usize = 10;
 
 /// How many of a frame are announced, by how many were and how many can be.
 const SIZES: [fn(usize, usize) -> usize; 4] = [|_, _| 7, |_, _| 8, |_, _| 9, |_, most| most];
@@ -125,13 +130,26 @@ fn bytes(lines: &[&[u8]], n: usize, others: fn(u8) -> Vec<u8>) -> Vec<Vec<u8>> {
     let mut texts = Vec::new();
     for place in (0..lines[n].len() - 1).step_by(2) {
         let byte = number(&lines[n][place..place + 2]).unwrap_or(0) as u8;
-        for other in others(byte) {
-            let mut line = lines[n].to_vec();
-            line.splice(place..place + 2, format!("{other:02x}").bytes());
-            texts.push(with(lines, n..n + 1, &[&line]));
-        }
+        texts.extend(others(byte).into_iter().map(|other| with_byte(lines, n, place, other)));
     }
     texts
+}
+
+/// The lines with a byte of one changed.
+fn with_byte(lines: &[&[u8]], n: usize, place: usize, byte: u8) -> Vec<u8> {
+    let mut line = lines[n].to_vec();
+    line.splice(place..place + 2, format!("{byte:02x}").bytes());
+    with(lines, n..n + 1, &[&line])
+}
+
+/// The lines with a server's source changed to each that it can't have, server by server.
+fn sources(lines: &[&[u8]]) -> Vec<Vec<u8>> {
+    let numbers = 0..lines.len();
+    let servers: Vec<usize> = numbers.filter(|&n| sort(lines[n]) == b"01").collect();
+    let past = servers.len() as u8 + 1;
+    let wrong = |own: usize| [own as u8 + 1, past, 255];
+    let of = |own: usize| wrong(own).map(|source| with_byte(lines, servers[own], SOURCE, source));
+    (0..servers.len()).flat_map(of).collect()
 }
 
 fn number(digits: &[u8]) -> Option<usize> {
