@@ -1,4 +1,4 @@
--- An honest phone is never accused, over the lines of a text: lines are steps, and a line that is none leaves the longestCovered beginning as it is.
+-- An honest phone is never accused, over the lines of a text: lines are steps, and a line that is none leaves the longest beginning as it is.
 -- Assumes nothing.
 use mathlib.Core.Path.{_≡_, refl, ap, _∙_, subst}
 use mathlib.Core.List.{List, [], _∷_}
@@ -35,7 +35,7 @@ same-longest es c (l ∷ ls) = go (readStep l) (λ d. same-longest (longerOf es 
     go (R.Step s) more = more (stepOf c s .cluster)
     go R.NoFrame more = more c ∙ counts-once es c (stepsIn ls)
 
--- the longestCovered beginning of a stretch is that of its steps
+-- the longest beginning of a stretch is that of its steps
 pub longest-is : {text : List ℕ} (t : Stretch text) → longestIn t ≡ longestCovered (t .count) (stepsIn (t .until))
 longest-is t = same-longest [] _ (t .until) ∙ ap (λ (c : Cluster). longestOf [] (recordsOf c (stepsIn (t .until)))) (begun t .is)
 

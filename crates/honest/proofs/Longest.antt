@@ -1,4 +1,4 @@
--- There is a longestCovered beginning in every run: covered beginnings are comparable, and the fold finds the longestCovered.
+-- There is a longest beginning in every run: covered beginnings are comparable, and the fold finds the longest.
 -- Assumes nothing.
 use mathlib.Core.Path.{_≡_, refl, ap}
 use mathlib.Core.Bool.{true}

@@ -1,4 +1,4 @@
--- An honest phone is never accused: the records that are made along a run are accepted, against any committed log that holds the longestCovered
+-- An honest phone is never accused: the records that are made along a run are accepted, against any committed log that holds the longest
 -- beginning that was ever covered.
 -- Assumes nothing.
 use mathlib.Core.Path.{_≡_}
@@ -81,7 +81,7 @@ abbrev pub recordsOf : Cluster → List Step → List Cluster
 recordsOf c [] = c ∷ []
 recordsOf c (s ∷ ss) = c ∷ recordsOf (stepOf c s .cluster) ss
 
--- the longestCovered beginning that was ever covered in a run from the fresh cluster of n servers
+-- the longest beginning that was ever covered in a run from the fresh cluster of n servers
 abbrev pub longestCovered : ℕ → List Step → List Entry
 longestCovered n ss = longestOf [] (recordsOf (freshCluster n) ss)
 
@@ -101,11 +101,11 @@ pub record HoldsAll (es : List Entry) (g : Committed) : Type 0 where
 
 -- ---- what is promised
 
--- there is a longestCovered beginning
+-- there is a longest beginning
 pub record LongestPromise (n : ℕ) (ss : List Step) : Type 0 where
   -- of two beginnings that were covered, at whatever moments, the one that is not longer is a beginning of the other
   pub comparable : (xs ys : List Entry) → CoveredIn n ss xs → CoveredIn n ss ys → length xs ≤ length ys → isBeginning xs ys ≡ true
-  -- the longestCovered was covered, and whatever was covered is a beginning of it
+  -- the longest was covered, and whatever was covered is a beginning of it
   pub was-covered : CoveredIn n ss (longestCovered n ss)
   pub begins-with : (es : List Entry) → CoveredIn n ss es → isBeginning es (longestCovered n ss) ≡ true
   -- its own entries are a log that holds it, so there always is one to check against

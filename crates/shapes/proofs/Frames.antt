@@ -1,4 +1,4 @@
--- No frame is longer than what is keptChars, and what is read of its bytes is the same where zeros follow them. Assumes nothing.
+-- No frame is longer than what is kept, and what is read of its bytes is the same where zeros follow them. Assumes nothing.
 use mathlib.Core.Path.{_≡_, refl, ap, _∙_}
 use mathlib.Core.Bool.{Bool, _&&_}
 use mathlib.Core.List.{List, [], _∷_, _++_}

@@ -49,7 +49,7 @@ module _ (s : Shape) where
           g ∙ (λ i. record { left = same i; held = replicate keptChars 0; fill = 0; over = false; number = numberAfter (s .number); broken = s .broken })
           ∙ ap (λ (x : List ℕ). nextLine k (bytesOf x) s) held ∙ by-test true (ap (isFrame k) (sym held) ∙ e)
 
--- as many characters are keptChars as before
+-- as many characters are kept as before
 pub ended-slots : (s : Shape) → length (s .held) ≡ keptChars → length (lineEnded s .held) ≡ keptChars
 unfolding endedAs
 ended-slots s l = go (dueOf (s .left))

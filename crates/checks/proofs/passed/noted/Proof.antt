@@ -1,4 +1,4 @@
--- `checks::passed::firstNoted` meets its contract. Assumes nothing.
+-- `checks::passed::noted` meets its contract. Assumes nothing.
 use borrow.Author.Tests.{eq-eqb, ne-eqb}
 use Rattle.checks.specs.Passing.{firstNoted}
 use Rattle.checks.proofs.passed.noted.Statement.{statement}

@@ -1,4 +1,4 @@
--- `histories::committed::sameLengths` meets its contract. Assumes nothing.
+-- `histories::committed::together` meets its contract. Assumes nothing.
 use Rattle.histories.specs.Committed.{sameLengths}
 use Rattle.base.proofs.Facts.{tests}
 use borrow.Author.Needs.{needs}
