@@ -10,7 +10,7 @@ ghost use Rattle.histories.specs.Rules.{knownTime, readable, valueAt};
 use clock::Time;
 use log::Entry;
 
-fn lesser(x: usize, y: usize) -> usize
+pub(crate) fn lesser(x: usize, y: usize) -> usize
     ensures { λ r. ⌜ r ≡ min x y ⌝ }
 {
     if x < y { x } else { y }

@@ -51,11 +51,12 @@ use denote.Exit.{yes}
 use Rattle.histories.specs.declared.PhoneRecord.{PhoneRecord}
 use Rattle.histories.specs.declared.Checked.{Checked}
 use Rattle.histories.specs.declared.Seen.{Seen}
-use Rattle.histories.specs.Committed.{Committed, lent, entriesOf}
+use Rattle.histories.specs.Committed.{entriesOf}
 use Rattle.histories.specs.Rules.{noRecord}
 use Rattle.histories.specs.Checking.{checkOf}
 use Rattle.histories.specs.Walking.{startOf, lookedAt}
 use Rattle.histories.proofs.Carrying.{Held, held-none, held-more, held-all}
+use Rattle.histories.proofs.Slices.{Slices, Five, part, parts-of, log-of}
 use Rattle.histories.proofs.PhoneRecord as R
 use Rattle.histories.proofs.PhoneRecord.Laws as R′
 use Rattle.histories.proofs.Seen as S
@@ -127,23 +128,6 @@ seen t = LL.tuple-val S.the-type S′.the-laws (S.the-type .to t)
 
 abbrev rec : PhoneRecord → Val
 rec r = LL.tuple-val R.the-type R′.the-laws (R.the-type .to r)
-
-abbrev part : RefT (List ℕ) → Val
-part x = sliceVal (x .ptr) (length (x .now))
-
--- the slices of the log: their types, their values, and the log that they lend
-abbrev Slices : Lft → List RattleType
-Slices κ =
-    ShrSlice (named 0) κ u16 ∷ ShrSlice (named 0) κ u8 ∷ ShrSlice (named 0) κ u16 ∷ ShrSlice (named 0) κ u16 ∷ ShrSlice (named 0) κ u16 ∷ []
-
-abbrev Five : Type 0
-Five = RefT (List ℕ) × (RefT (List ℕ) × (RefT (List ℕ) × (RefT (List ℕ) × (RefT (List ℕ) × Unit {0}))))
-
-abbrev parts-of : Five → List Val × (List Val × (List Val × (List Val × (List Val × Unit {0}))))
-parts-of g = (part (g .0) ∷ [], (part (g .1 .0) ∷ [], (part (g .1 .1 .0) ∷ [], (part (g .1 .1 .1 .0) ∷ [], (part (g .1 .1 .1 .1 .0) ∷ [], tt)))))
-
-abbrev log-of : Five → Committed
-log-of g = lent (g .0 .now) (g .1 .0 .now) (g .1 .1 .0 .now) (g .1 .1 .1 .0 .now) (g .1 .1 .1 .1 .0 .now)
 
 module _ {M : Type 1} (𝓤 : URA M) (H : Heap 𝓤) (A : Atoms 𝓤) (at-mem : Memory → SProp 𝓤) (run : Routine → Fun 𝓤) where
   -- the contracts that the proof cites
