@@ -109,7 +109,7 @@ fn has_law(results: &str, path: &str, form: &str) -> bool {
     speaks && results.lines().any(|line| line == import)
 }
 
-/// Whether there are both laws of a function that is walked by hand, whose contract has no reading: its
+/// Whether there are both laws of a function over a slice of structs, whose contract has no reading: its
 /// clauses come to one fact about the result, and that fact allows one result.
 fn has_walked_law(results: &str, path: &str) -> bool {
     let (room, below) = path.split_once("::").unwrap_or(("", path));
