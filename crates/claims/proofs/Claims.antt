@@ -14,7 +14,7 @@ use denote.Ref.{RefT, now}
 use mathlib.Core.Path.{_≡_}
 use mathlib.Core.Logic.{_≢_, _↔_}
 use mathlib.Core.Bool.{Bool, true, false, cond, _||_}
-use mathlib.Core.List.{List, [], _∷_, _++_}
+use mathlib.Core.List.{List, [], _∷_, _++_, map}
 use Prim.Native.Nat.{ℕ, _≤_, _<_, _*_, _/_, _%_, _^_}
 use lib.Count.{ones}
 use lib.Dec.{eqb, leb}
@@ -39,7 +39,7 @@ use Rattle.cluster.specs.declared.Server.{Server}
 use Rattle.cluster.specs.Sets.{bits, membersOf, mostOf}
 use Rattle.cluster.proofs.Good as facts
 use Rattle.cluster.proofs.Masks as masks
-use Rattle.steps.specs.declared.Step.the-variants.{Start, Elect, Pulls, RollsBack, Writes, MajorityRead, Acknowledged, ClocksAgree, WritesNothing, NewestRead, TakesReport}
+use Rattle.steps.specs.declared.Step.the-variants.{Start, Elect, Pulls, RollsBack, Writes, Acknowledged, ClocksAgree, WritesNothing, NewestRead, TakesReport}
 use Rattle.steps.specs.Answers.{numberOf}
 use Rattle.steps.proofs.Numbers as numbers
 use Rattle.wholes.specs.Starts.{startRules}
@@ -56,8 +56,6 @@ use Rattle.frames.proofs.Lengths as step-lengths
 use Rattle.frames.proofs.Table as tables
 use Rattle.answers.specs.Answers.{answerBytes}
 use Rattle.answers.proofs.Lengths as answer-lengths
-use Rattle.safety.specs.Promise.{StepsFrom, firstOf, Kept}
-use Rattle.safety.proofs.Example as roof
 use Rattle.mail.specs.Mails.{noteAt, withNotes, withQueue}
 use Rattle.cluster.specs.declared.Cluster.{Cluster}
 use Rattle.cluster.specs.Ranges.{Fits}
@@ -109,7 +107,7 @@ use Rattle.fits.proofs.step_fits.Reads as step-fits-contract
 use Rattle.replay.specs.declared.Fed.{Fed}
 use Rattle.replay.specs.declared.Finished.{Finished}
 use Rattle.replay.specs.declared.Session.{Session}
-use Rattle.replay.specs.Texts.{answers, leaves, answerTo}
+use Rattle.replay.specs.Texts.{recordAfter, answers, leaves, answerTo}
 use Rattle.replay.specs.Pieces.{begun, together, runsAll, saysAll, ending, ended, fedOf, fedOut, finishOf, finishOut}
 use Rattle.replay.proofs.feed.Reads as feed-contract
 use Rattle.replay.proofs.finish.Reads as finish-contract
@@ -120,10 +118,6 @@ use Rattle.shell.specs.declared.Drained.{Drained}
 use Rattle.shell.specs.Loop.{Drains}
 use Rattle.shell.proofs.Contracts as program
 use Rattle.shell.proofs.Loop as loop
-use Rattle.safety.specs.Promise.{Promised}
-use Rattle.safety.proofs.Promise as safety
-use Rattle.safety.specs.Clocks.{ClocksPromised}
-use Rattle.safety.proofs.Clocks as clocks
 use Rattle.histories.specs.declared.PhoneRecord.{PhoneRecord}
 use Rattle.histories.specs.declared.Checked.{Checked}
 use Rattle.histories.specs.declared.Checked.the-variants as checking
@@ -153,20 +147,6 @@ use Rattle.verdicts.proofs.reason.Reads as reason-contract
 use Rattle.histories.proofs.Exactly as exactly
 use Rattle.histories.proofs.Reasons as reasons
 use Rattle.histories.proofs.Results as checked
-use Rattle.honest.specs.Promise.{recordOfWrite, Made, LongestPromised, HonestPromised}
-use Rattle.honest.specs.Lines.{HonestInTexts}
-use Rattle.honest.specs.Savings.{HonestCarried}
-use Rattle.honest.specs.Verdicts.{VerdictPromised}
-use Rattle.honest.proofs.Longest as longest
-use Rattle.honest.proofs.Promise as honest
-use Rattle.honest.proofs.Lines as honest-lines
-use Rattle.honest.proofs.Savings as honest-savings
-use Rattle.honest.proofs.Verdicts as honest-verdicts
-use Rattle.honest.proofs.Example as phones
-use Rattle.safety.specs.Newest.{NewestPromised, NewestRun, readAfter}
-use Rattle.safety.proofs.Newest as newest
-use Rattle.safety.proofs.NewestExample as overtaken
-use Rattle.safety.proofs.StaleExample as stale
 use borrow.Author.Tests.{le-ltb, lt-ltb, le-leb, ne-eqb}
 use native.Mathlib.Omega.{arith}
 use Rattle.replay.specs.Pieces.{placed}
@@ -180,21 +160,33 @@ use Rattle.saved.proofs.save.Reads as save-contract
 use Rattle.shapes.specs.declared.Shape.{Shape}
 use Rattle.shapes.specs.Walk.{freshShape, walked, isShaped}
 use Rattle.shapes.proofs.Told as shapes
-use Rattle.loads.specs.Loads.{loadOf}
+use Rattle.loads.specs.Loads.{loaded, loadOf}
 use Rattle.loads.specs.Statements.{LoadsExactly, NoFrameExactly, IllFormedExactly, LoadsOrRefuses, GivesBack, OneEach}
 use Rattle.loads.proofs.Loads as loads
 use Rattle.loads.proofs.load.Reads as load-contract
-use Rattle.carried.specs.Promise.{CarriedPromised, NewestCarriedPromised, CarriedInTexts}
-use Rattle.carried.proofs.Carried as carried
-use Rattle.carried.proofs.Texts as carried-texts
-use Rattle.demand3.specs.Promise.{PromisedInTexts, Never9InTexts, Never9Written, EveryRun}
-use Rattle.demand3.proofs.Promise as lines
-use Rattle.demand3.specs.Newest.{NewestInTexts, EveryNewestRun}
-use Rattle.demand3.proofs.Newest as newest-lines
-use Rattle.demand3.proofs.NewestRuns as newest-runs
-use Rattle.demand3.proofs.Never9 as never-9
-use Rattle.demand3.proofs.Written as written
-use Rattle.demand3.proofs.Runs as runs
+use Rattle.promises.specs.Runs.{LeadsTo, FromFresh}
+use Rattle.promises.specs.Demand3.{firstOf, Kept, Demand3Promised}
+use Rattle.promises.specs.Newest.{TakenIn, NewestPromised}
+use Rattle.promises.specs.Clocks.{ClocksPromised}
+use Rattle.promises.specs.Longest.{LongestPromised}
+use Rattle.promises.specs.Honest.{recordOfWrite, Made, HonestPromised}
+use Rattle.promises.specs.Texts.{a-line, takenAll, TextsAreRuns, RunsAreTexts}
+use Rattle.promises.specs.Written.{Never9Written, RefusedBeforeAStart, CarriedInTexts}
+use Rattle.promises.specs.Verdicts.{VerdictPromised}
+use Rattle.promises.proofs.Turns as turns
+use Rattle.promises.proofs.Demand3 as demand3
+use Rattle.promises.proofs.Newest as newest
+use Rattle.promises.proofs.Clocks as clocks
+use Rattle.promises.proofs.Longest as longest
+use Rattle.promises.proofs.Honest as honest
+use Rattle.promises.proofs.Texts as texts
+use Rattle.promises.proofs.Written as written
+use Rattle.promises.proofs.Evenings as evenings
+use Rattle.promises.proofs.Verdicts as verdicts
+use Rattle.promises.proofs.RoofExample as roof
+use Rattle.promises.proofs.NewestExample as overtaken
+use Rattle.promises.proofs.StaleExample as stale
+use Rattle.promises.proofs.PhonesExample as phones
 use Rattle.twelve.specs.Table.{all, rowHolds, table}
 use Rattle.twelve.proofs.Twelve as twelve
 
@@ -338,48 +330,49 @@ program-leaves = loop.drained-record
 
 -- ---- demand 3
 
--- over steps, and over the lines of any text
-pub demand-3-over-steps : Promised
-demand-3-over-steps = safety.demand-3
-
-pub demand-3-over-lines : PromisedInTexts
-demand-3-over-lines = lines.demand-3-text
-
--- refusal 9 is never given to a line of any text, nor written
-pub refusal-9-is-never-given : Never9InTexts
-refusal-9-is-never-given = never-9.never-9-text
-
-pub refusal-9-is-never-written : Never9Written
-refusal-9-is-never-written = written.never-9-written
-
--- nothing of the promise over steps is lost over lines: every run of steps is a text
-pub every-run-is-a-text : EveryRun
-every-run-is-a-text = runs.every-run
+-- in every run from a fresh cluster, whatever happens between
+pub demand-3 : Demand3Promised
+demand-3 = demand3.demand-3
 
 -- ---- the read that is sure to be newest
 
--- over steps, and over the lines of any text
-pub newest-over-steps : NewestPromised
-newest-over-steps = newest.newest-read
+pub the-newest-read : NewestPromised
+the-newest-read = newest.newest-read
 
-pub newest-over-lines : NewestInTexts
-newest-over-lines = newest-lines.newest-read-text
+-- it is no empty promise: in a run from a fresh cluster such a read is answered, after a change of primaries; and a primary that has been
+-- overtaken appends its entry, and whatever happens after that, a read up to there is answered nowhere
+pub a-newest-read-is-answered : FromFresh overtaken.end × (stepOf overtaken.end (NewestRead 1 5 2 2) .answer ≡ A.Value 41 (record { p = 1; l = 1 }))
+a-newest-read-is-answered = (overtaken.from-fresh-end, overtaken.answered)
 
--- nothing of it is lost over lines
-pub every-newest-run-is-a-text : EveryNewestRun
-every-newest-run-is-a-text = newest-runs.every-newest-run
-
--- it is no empty promise: there is a run with such a read, after a change of primaries; and a primary that has been overtaken appends its
--- entry, and whatever steps come after, a read up to there is answered nowhere
-pub a-newest-read-is-answered : NewestRun 3
-a-newest-read-is-answered = overtaken.run
+pub it-takes-in-build-41 : TakenIn roof.moment overtaken.end 0 1 overtaken.reading
+it-takes-in-build-41 = overtaken.taken-in
 
 pub an-overtaken-primary-appends : stepOf overtaken.behind (WritesNothing 0) .answer ≡ A.Entry 1 1 (record { p = 1; l = 0 })
 an-overtaken-primary-appends = overtaken.appends
 
-pub an-overtaken-primary-is-never-answered : (after : List Step) → StepsFrom (stepOf overtaken.behind (WritesNothing 0) .cluster) after
-    → (q key v : ℕ) (t : Time) → stepOf (readAfter overtaken.behind 0 after) (NewestRead q key 1 1) .answer ≢ A.Value v t
+pub an-overtaken-primary-is-never-answered : (y : Cluster) → LeadsTo (stepOf overtaken.behind (WritesNothing 0) .cluster) y → (q key v : ℕ) (t : Time)
+    → stepOf y (NewestRead q key 1 1) .answer ≢ A.Value v t
 an-overtaken-primary-is-never-answered = overtaken.never-answered
+
+-- ---- runs and the program's texts
+
+-- what a program is given from a start line on is a run, with savings between texts too, and every run is a text: so what is promised of runs
+-- is promised of texts, and nothing else is
+pub texts-are-runs : TextsAreRuns
+texts-are-runs = texts.texts-are-runs
+
+pub lines-are-given : (c : Cluster) (ls : List (List ℕ)) → takenAll c (map a-line ls) ≡ recordAfter c ls
+lines-are-given = texts.lines-are-given
+
+pub runs-are-texts : RunsAreTexts
+runs-are-texts = texts.runs-are-texts
+
+-- refusal 9 is never written, and nothing but refusals before the first start
+pub refusal-9-is-never-written : Never9Written
+refusal-9-is-never-written = written.never-9-written
+
+pub refused-before-a-start : RefusedBeforeAStart
+refused-before-a-start = written.refused-before-a-start
 
 -- ---- no more ticks by counting
 
@@ -439,15 +432,12 @@ the-shape-is-told = shapes.told
 pub in-any-pieces : (s : Shape) (x y : List ℕ) → walked s (x ++ y) ≡ walked (walked s x) y
 in-any-pieces = shapes.walked-append
 
--- a record that was saved and loaded carries its run on
-pub demand-3-over-savings : CarriedPromised
-demand-3-over-savings = carried.demand-3-carried
-
-pub newest-over-savings : NewestCarriedPromised
-newest-over-savings = carried.newest-carried
+-- what is saved of a record that comes from fresh loads, and gives it back; a text over it is answered as if it had come at once
+pub a-saving-gives-back : (c d : Cluster) → FromFresh c → loadOf d (saveOf c) ≡ loaded c
+a-saving-gives-back = turns.saved-and-loaded
 
 pub lines-carried-on : CarriedInTexts
-lines-carried-on = carried-texts.carried-in-texts
+lines-carried-on = evenings.carried-in-texts
 
 -- ---- phones carry a clock
 
@@ -520,19 +510,13 @@ what-is-held-is-such-a-log = holding.held-log
 pub there-is-a-longest-beginning : LongestPromised
 there-is-a-longest-beginning = longest.longest-beginning
 
--- an honest phone is never accused: over steps, over a text's lines, and over savings
+-- an honest phone is never accused
 pub an-honest-phone-is-never-accused : HonestPromised
 an-honest-phone-is-never-accused = honest.honest-phone
 
-pub an-honest-phone-over-lines : HonestInTexts
-an-honest-phone-over-lines = honest-lines.honest-text
-
-pub an-honest-phone-over-savings : HonestCarried
-an-honest-phone-over-savings = honest-savings.honest-carried
-
 -- the program's verdict on any two texts, the step lines and the records, is what it has to be, and it never accuses an honest phone
 pub the-verdict-is-right : VerdictPromised
-the-verdict-is-right = honest-verdicts.verdicts
+the-verdict-is-right = verdicts.verdicts
 
 -- what is told of a record that is named is a rule that it breaks
 pub a-named-record-breaks-what-is-told : (g : Committed) (rs : List PhoneRecord) (n : ℕ) → checkOf rs g ≡ checking.Breaks n
@@ -540,7 +524,7 @@ pub a-named-record-breaks-what-is-told : (g : Committed) (rs : List PhoneRecord)
 a-named-record-breaks-what-is-told = reasons.named-because
 
 -- a run of three phones with an election and a rollback; the report that was never acknowledged is named
-pub three-phones : Made (freshCluster 3) phones.steps [] [] phones.records × (checkOf phones.records phones.committed ≡ checking.Accepted)
+pub three-phones : Made (freshCluster 3) phones.run [] [] phones.records × (checkOf phones.records phones.committed ≡ checking.Accepted)
 three-phones = (phones.made, phones.accepted)
 
 pub the-report-of-40-is-named : checkOf (phones.records ++ (recordOfWrite 3 phones.w40 ∷ [])) phones.committed ≡ checking.Breaks 5

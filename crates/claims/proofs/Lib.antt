@@ -1,2 +1,3 @@
 -- One page: what is claimed to be proved. Assumes nothing.
 pub mod Claims
+pub mod Before

@@ -1,5 +1,5 @@
--- The laws and proofs of the safety theory, and of the records that are joined to it: `Promise` has demand 3, `Newest` the read that is sure to
--- be newest, and `Clocks` that no time runs far ahead.
+-- The laws and proofs of the safety theory, and of the records that are joined to it: `Stepped` has what is known of every record that steps
+-- lead to from a fresh cluster.
 -- Assumes nothing.
 pub mod Quorum
 pub mod Time
@@ -23,11 +23,3 @@ pub mod SeenWrites
 pub mod SeenMajorities
 pub mod SeenTold
 pub mod Stepped
-pub mod Answered
-pub mod Promise
-pub mod SeenNewest
-pub mod Newest
-pub mod Example
-pub mod NewestExample
-pub mod StaleExample
-pub mod Clocks

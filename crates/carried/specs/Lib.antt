@@ -1,2 +1,0 @@
--- What is promised of a record that was saved and loaded. Assumes nothing.
-pub mod Promise

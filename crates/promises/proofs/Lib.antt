@@ -1,0 +1,26 @@
+-- Every promise holds.
+-- Assumes nothing.
+pub mod Turns
+pub mod Answered
+pub mod Demand3
+pub mod SeenNewest
+pub mod Newest
+pub mod Clocks
+pub mod RoofExample
+pub mod NewestExample
+pub mod StaleExample
+pub mod Starts
+pub mod Never9
+pub mod Written
+pub mod Texts
+pub mod Evenings
+pub mod Folds
+pub mod Moments
+pub mod OwnLog
+pub mod Longest
+pub mod ReadRecords
+pub mod WriteRecords
+pub mod Honest
+pub mod PhonesExample
+pub mod SameLongest
+pub mod Verdicts
