@@ -1,3 +1,2 @@
 -- One page: what is claimed to be proved. Assumes nothing.
 pub mod Claims
-pub mod Before

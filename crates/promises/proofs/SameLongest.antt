@@ -16,7 +16,7 @@ use Rattle.promises.specs.Longest.{recordsOf}
 use Rattle.promises.proofs.Folds.{longer-again}
 
 -- the first record of a run counts once
-pub counts-once : (es : List Entry) (c : Cluster) (run : List Event) → longestOf (longerOf es c) (recordsOf c run) ≡ longestOf es (recordsOf c run)
+counts-once : (es : List Entry) (c : Cluster) (run : List Event) → longestOf (longerOf es c) (recordsOf c run) ≡ longestOf es (recordsOf c run)
 counts-once es c [] = longer-again es c
 counts-once es c (e ∷ run) = ap (λ (fs : List Entry). longestOf fs (recordsOf (happens c e) run)) (longer-again es c)
 

@@ -67,10 +67,10 @@ text-lines [] = refl
 text-lines (comes s ∷ run) = hex-line (bytesOfFrame (frameFor s)) (unlines (linesFor run)) ∙ ap (λ (ls : List (List ℕ)). writeStep s ∷ ls) (text-lines run)
 text-lines (overnight d ∷ run) = text-lines run
 
-pub line-is : (c : Cluster) (s : Step) → FitsStep s → answerTo c (writeStep s) ≡ stepOf c s
+line-is : (c : Cluster) (s : Step) → FitsStep s → answerTo c (writeStep s) ≡ stepOf c s
 line-is c s f = answer-is c (writeStep s) s (read-written-step s f)
 
-pub start-is : (n : ℕ) → fewestServers ≤ n → n ≤ mostServers → answerTo zeroCluster (writeStep (Start n)) ≡ startDone n
+start-is : (n : ℕ) → fewestServers ≤ n → n ≤ mostServers → answerTo zeroCluster (writeStep (Start n)) ≡ startDone n
 unfolding rowOf
 start-is n two seven =
     line-is zeroCluster (Start n) (omega arith) ∙ step-done zeroCluster (Start n) refl (le-leb fewestServers n two, (le-leb n mostServers seven, tt))

@@ -63,7 +63,7 @@ pub hex-line : (bs rest : List ℕ) → lines (hexOf bs ++ (lineFeed ∷ rest)) 
 hex-line [] rest = refl
 hex-line (b ∷ bs) rest = rw (no-feed (b / radix), no-feed (b % radix), hex-line bs rest)
 
-pub answer-line : (a : Answer) (rest : List ℕ) → lines (lineOf a ++ rest) ≡ writeAnswer a ∷ lines rest
+answer-line : (a : Answer) (rest : List ℕ) → lines (lineOf a ++ rest) ≡ writeAnswer a ∷ lines rest
 unfolding lineOf
 answer-line a rest = ap lines (append-assoc (writeAnswer a) (lineFeed ∷ []) rest) ∙ hex-line (bytesOfTelling (tellingOf a)) rest
 
