@@ -109,20 +109,25 @@ fn has_law(results: &str, path: &str, form: &str) -> bool {
     speaks && results.lines().any(|line| line == import)
 }
 
-/// Whether there are both laws of a function over a slice of structs, whose contract has no reading: its
-/// clauses come to one fact about the result, and that fact allows one result.
+/// Whether there are both laws of a function over a lent struct or a slice of structs, whose contract has no
+/// reading: its clauses come to facts about what is allowed, and each of these allows one value.
 fn has_walked_law(results: &str, path: &str) -> bool {
     let (room, below) = path.split_once("::").unwrap_or(("", path));
     let (name, _) = law_of(path);
     let import = format!("use Rattle.{room}.proofs.{} as the-{name}", below.replace("::", "."));
-    let has = |start: &str, words: &str| {
+    let law = |start: &str| {
         let law = results.split("pub ").find(|law| law.starts_with(start)).unwrap_or_default();
-        law.split("\n\n").next().unwrap_or_default().contains(words)
+        law.split("\n\n").next().unwrap_or_default()
     };
+    let says = law(&format!("{name}-says : "));
+    let facts = says.lines().find_map(|line| line.trim_start().strip_prefix("≡ ")).unwrap_or_default();
+    let of_fact = |part: &str| part.split([' ', ')']).next().unwrap_or_default().to_string();
+    let allowed: Vec<String> = facts.split("fact 𝓤 (").skip(1).map(of_fact).collect();
+    let decides = law(&format!("{name} : ")).replace('\n', " ") + " ";
     results.lines().any(|line| line == import)
-        && has(&format!("{name}-says : "), &format!("the-{name}.clauses "))
-        && has(&format!("{name}-says : "), "≡ fact 𝓤 (Allowed r)")
-        && has(&format!("{name} : "), "OneResult Allowed")
+        && says.contains(&format!("the-{name}.clauses "))
+        && !allowed.is_empty()
+        && allowed.iter().all(|fact| fact.starts_with("Allowed") && decides.contains(&format!("OneResult {fact} ")))
 }
 
 fn law_wanted(room: &str, path: &str, form: &str) -> String {

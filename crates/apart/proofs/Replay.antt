@@ -1,7 +1,7 @@
 -- What the definitions of reading a text give where a wrong program differs. Assumes nothing.
 use mathlib.Core.Path.{_≡_, refl}
 use mathlib.Core.Bool.{Bool, true, false}
-use mathlib.Core.List.{List, [], _∷_, append-nil}
+use mathlib.Core.List.{List, [], _∷_, _++_, append-nil}
 use Prim.Native.Nat.{ℕ}
 use lib.ListN.{replicate}
 use Rattle.base.specs.Numbers.{every, count}
@@ -24,10 +24,13 @@ use Rattle.words.specs.Words.{highOf, lowOf, wordOf, framed}
 use Rattle.frames.specs.Layout.{bytesOfFrame, frameOf}
 use Rattle.frames.specs.Kinds.{stepOfFrame, isClean}
 use Rattle.frames.specs.Steps.{writeStep, stepIn, readStep}
-use Rattle.replay.specs.declared.Reader.{Reader}
+use Rattle.lines.specs.declared.Reader.{Reader}
 use Rattle.replay.specs.declared.Plan.the-variants.{Refuse, Record}
-use Rattle.replay.specs.Texts.{lines, respond, answerTo, lineOf, answers}
-use Rattle.replay.specs.Pieces.{freshReader, begun, lineHeld, pushOf, after, said, fedOf, isEmpty, finishOf}
+use Rattle.lines.specs.Texts.{lines}
+use Rattle.replay.specs.Texts.{respond, answerTo, lineOf, answers}
+use Rattle.lines.specs.Readers.{freshReader, lineHeld, pushOf, isEmpty, readerAfter}
+use Rattle.lines.specs.Folds.{byteAfter}
+use Rattle.replay.specs.Pieces.{begun, after, said, fedOf, finishOf}
 use Rattle.replay.specs.Plans.{placeOf, planOf}
 use Rattle.apart.proofs.Things.{holder, two, F2}
 
@@ -45,9 +48,22 @@ begins-with-the-zero-record = refl
 pub begins-within-a-line : begun F2 .reader .fill ≡ 0
 begins-within-a-line = refl
 
-pub pushed-writes-over-the-last : pushOf (reader (replicate 26 48) 26 false) 49 .held ≡ replicate 26 48
-unfolding pushOf
-pushed-writes-over-the-last = refl
+-- the 27th character makes the line too long, and then nothing else is kept
+pub the-27th-is-remembered : readerAfter (reader (replicate 26 48) 26 false) 49 ≡ reader (replicate 26 0) 0 true
+unfolding readerAfter pushOf
+the-27th-is-remembered = refl
+
+pub a-26th-is-kept : readerAfter (reader (replicate 25 48 ++ (0 ∷ [])) 25 false) 49 .fill ≡ 26
+unfolding readerAfter pushOf
+a-26th-is-kept = refl
+
+pub a-long-line-stays-long : readerAfter (reader (replicate 26 48) 3 true) 49 ≡ reader (replicate 26 0) 0 true
+unfolding readerAfter pushOf
+a-long-line-stays-long = refl
+
+pub a-line-feed-closes : readerAfter (reader (replicate 26 48) 3 true) 10 ≡ freshReader
+unfolding readerAfter
+a-line-feed-closes = refl
 
 pub held-reads-a-long-line : readStep (lineHeld (reader (writeStep ClocksAgree) 26 true)) ≡ R.NoFrame
 unfolding framed lineHeld
@@ -69,7 +85,7 @@ plan-lets-a-start-look = refl
 pub the-wrong-server-is-replaced :
     serverAt (fedOf (record { cluster = two freshServer (holder 1 []); reader = reader (writeStep (Hears 0 1)) 26 false }) (10 ∷ []) 19 .session .cluster) 0 .head .term
     ≡ 1
-unfolding every count eachFrom isBefore sameTime laterOf sameEntry entryAt inOrder restZero logOk isUnused isUsed noteOk notesOk slotOk queueOk sourceOk mailOk numbersOk countedOk zeroOk serverOk wellFormed digitOf charOf byteOf allHex highOf lowOf wordOf framed bytesOfFrame frameOf stepOfFrame isClean stepIn heardOf delivered rowOf coreOf stepOf respond answerTo lineOf lineHeld after said fedOf
+unfolding every count eachFrom isBefore sameTime laterOf sameEntry entryAt inOrder restZero logOk isUnused isUsed noteOk notesOk slotOk queueOk sourceOk mailOk numbersOk countedOk zeroOk serverOk wellFormed digitOf charOf byteOf allHex highOf lowOf wordOf framed bytesOfFrame frameOf stepOfFrame isClean stepIn heardOf delivered rowOf coreOf stepOf respond answerTo lineOf lineHeld byteAfter after said fedOf
 the-wrong-server-is-replaced = refl
 
 pub rest-without-line-feed-is-dropped : isEmpty (pushOf freshReader 48) ≡ false

@@ -8,4 +8,5 @@ pub mod Greatest
 pub mod Each
 pub mod Joined
 pub mod Cases
+pub mod Replaced
 pub mod Results

@@ -2,8 +2,8 @@
 -- nothing.
 use mathlib.Core.Path.{_≡_, ap, _∙_}
 use mathlib.Core.Bool.{true, false}
-use Rattle.replay.specs.Pieces.{together}
-use Rattle.shell.specs.declared.End.{End}
+use Rattle.lines.specs.Texts.{together}
+use Rattle.lines.specs.declared.End.{End}
 use Rattle.followed.specs.Follow.{finishedRun, followedBy}
 use Rattle.followed.proofs.Followed.{followed-text}
 use Rattle.phones.specs.declared.Listing.{Listing}
@@ -13,7 +13,8 @@ use Rattle.checks.specs.declared.passed.Passing.{Passing}
 use Rattle.checks.specs.declared.texts.Texts.{Texts}
 use Rattle.checks.specs.declared.texts.Both.{Both}
 use Rattle.checks.specs.Passing.{passedBy, finishedPassed}
-use Rattle.checks.specs.Reading.{newTexts, ReadOn, isInput, ReadsBoth}
+use Rattle.lines.specs.Turns.{isInput}
+use Rattle.checks.specs.Reading.{newTexts, ReadOn, ReadsBoth}
 use Rattle.checks.proofs.PassedOver.{passed-text}
 
 pub reads-both : (a t u : Texts) (e f : End) (b : Both) → a ≡ newTexts → ReadOn true a t e → ReadOn false t u f → b .run ≡ finishedRun (u .following)

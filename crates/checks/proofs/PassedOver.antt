@@ -9,17 +9,17 @@ use borrow.Author.Tests.{eqb-true}
 use lib.Dec.{eqb}
 use lib.ListN.{length, getD, drop}
 use lib.Seq.{drop-cons, drop-length}
-use Rattle.words.proofs.Held.{held-empty, held-some, held-framed}
+use Rattle.lines.proofs.Held.{held-empty, held-some, held-framed}
 use Rattle.frames.specs.declared.ReadStep.{ReadStep}
 use Rattle.frames.specs.declared.ReadStep.the-variants.{NoFrame}
 use Rattle.frames.specs.Layout.{stepBytes}
 use Rattle.frames.specs.Steps.{stepIn, readStep}
-use Rattle.replay.specs.declared.Reader.{Reader}
-use Rattle.replay.specs.Texts.{lineFeed, lines}
-use Rattle.replay.specs.Pieces.{kept, freshReader, lineHeld, pushOf}
-use Rattle.replay.specs.Folds.{overLines}
-use Rattle.replay.proofs.Lines.{Plain, none, more, plain-snoc, line-first, line-last}
-use Rattle.replay.proofs.Whole.{StandsFor, fresh-holds, push-holds}
+use Rattle.lines.specs.declared.Reader.{Reader}
+use Rattle.lines.specs.Texts.{lineFeed, lines}
+use Rattle.lines.specs.Readers.{width, freshReader, lineHeld, pushOf, readerAfter}
+use Rattle.lines.specs.Folds.{overLines}
+use Rattle.lines.proofs.Lines.{Plain, none, more, plain-snoc, line-first, line-last}
+use Rattle.lines.proofs.Readers.{StandsFor, fresh-holds, push-holds}
 use Rattle.checks.specs.declared.passed.Passed.{Passed}
 use Rattle.checks.specs.declared.passed.Passing.{Passing}
 use Rattle.checks.specs.Passing.{lastAfter, newPassed, passedAfterRead, passedAfterLine, passedOf, newPassing, heldEnded, afterByte, passedBy, finishedPassed}
@@ -38,12 +38,12 @@ ended : (p : Passing) (q : List ℕ) → StandsFor (p .reader) q → p .last ≡
 unfolding lineHeld
 ended p q h e =
     let r = p .reader in
-    ap (λ (x : ReadStep). passedAfterRead (p .passed) x (p .last)) (held-framed stepBytes stepIn NoFrame kept (omega arith) (r .held) (r .fill) (r .over) h)
+    ap (λ (x : ReadStep). passedAfterRead (p .passed) x (p .last)) (held-framed stepBytes stepIn NoFrame width (omega arith) (r .held) (r .fill) (r .over) h)
     ∙ ap (passedAfterRead (p .passed) (readStep q)) e
 
 -- after a byte, by whether it is a line feed
 abbrev byFeed : Passing → ℕ → Bool → Passing
-byFeed p b x = cond x (record { passed = heldEnded p; reader = freshReader; last = 0 }) (record { passed = p .passed; reader = pushOf (p .reader) b; last = b })
+byFeed p b x = record { passed = cond x (heldEnded p) (p .passed); reader = cond x freshReader (pushOf (p .reader) b); last = cond x 0 b }
 
 -- from any point of a line
 abbrev From : List ℕ → Type 0
@@ -52,7 +52,7 @@ From text =
     → finishedPassed (passedBy p text) ≡ overLines passedAfterLine (p .passed) (lines (q ++ text))
 
 from : (text : List ℕ) → From text
-unfolding finishedPassed afterByte
+unfolding finishedPassed afterByte readerAfter
 from [] p [] s h e = simp (held-empty h)
 from [] p (b ∷ q) (more n s) h e =
     simp (held-some h)

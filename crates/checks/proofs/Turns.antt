@@ -5,19 +5,17 @@ use mathlib.Core.List.{List, [], _∷_, _++_}
 use Prim.Native.Nat.{ℕ, _≤_, _<_, _+_, _-_}
 use native.Mathlib.Omega.{arith}
 use lib.ListN.{length, take, length-append}
-use lib.IntN.{ℤ, pos, negsuc}
+use lib.IntN.{ℤ, pos}
 use lib.Signed.{ltZ}
 use mir.Syntax.{w64}
 use mir.Val.{SFits, toZ, ofZ}
-use mir.ValLaws.{toZ-ofZ}
-use borrow.Author.Tests.{ne-eqb, ltb-true}
 use Rattle.io.specs.Counts.{clamped}
-use Rattle.replay.specs.Pieces.{together}
-use Rattle.shell.specs.declared.End.{End}
-use Rattle.shell.specs.declared.End.the-variants.{More, Input, CannotRead}
-use Rattle.shell.specs.Loop.{mostTurns, endOf, given}
-use Rattle.shell.proofs.Loop.{signed-is, signed-below, none}
-use Rattle.shell.proofs.Saving.{together-more}
+use Rattle.lines.specs.Texts.{together}
+use Rattle.lines.specs.declared.End.{End}
+use Rattle.lines.specs.declared.End.the-variants.{More, Input, CannotRead}
+use Rattle.lines.specs.Turns.{mostTurns, endOf, given}
+use Rattle.lines.proofs.Lines.{together-more}
+use Rattle.lines.proofs.Turns.{read-end, read-failed, read-some}
 use Rattle.followed.specs.declared.Following.{Following}
 use Rattle.followed.specs.Follow.{followedBy}
 use Rattle.followed.proofs.Followed.{followed-append}
@@ -58,34 +56,19 @@ module _ (steps : Bool) where
 
   -- ---- one turn
 
+  -- the read answered 0, that it failed, or some bytes
   module _ (a : Texts) (buffer : List ℕ) (got : ℤ) (f : SFits w64 got) where
-    -- the read answered 0
     pub turned-end : ofZ w64 got ≡ 0 → Turned steps a buffer got a Input
-    unfolding endOf
-    turned-end e =
-        rw (signed-is got 0 f e)
-        record { state = sym (takes-nothing a) ∙ ap (λ (k : ℕ). takenBy steps a (take k buffer)) (none (length buffer)); ends = refl }
+    turned-end e = let r = read-end buffer got f e in record { state = sym (takes-nothing a) ∙ ap (takenBy steps a) (r .piece); ends = r .end }
 
-    -- the read answered that it failed
     pub turned-failed : ltZ (toZ w64 (ofZ w64 got)) (pos 0) ≡ true → Turned steps a buffer got a CannotRead
-    unfolding endOf
-    turned-failed e = go got (signed-below got true f e)
-      where
-        go : (z : ℤ) → ltZ z (pos 0) ≡ true → Turned steps a buffer z a CannotRead
-        go (pos n) h = let l : n < 0 = ltb-true n 0 h in let z : ⊥ = omega arith in absurd z
-        go (negsuc n) h = record { state = sym (takes-nothing a); ends = refl }
+    turned-failed e = let r = read-failed buffer got f e in record { state = sym (takes-nothing a) ∙ ap (takenBy steps a) (r .piece); ends = r .end }
 
-    -- the read answered some bytes
     pub turned-piece : (n : ℕ) (b : Texts) → (ofZ w64 got ≡ 0 → ⊥) → ltZ (toZ w64 (ofZ w64 got)) (pos 0) ≡ false
         → n ≡ clamped (toZ w64 (ofZ w64 got)) (length buffer) → b ≡ takenBy steps a (take n buffer) → Turned steps a buffer got b More
-    unfolding endOf
     turned-piece n b some below e p =
-        go got (signed-below got false f below) (λ z. some (ap (ofZ w64) z)) (e ∙ ap (λ (z : ℤ). clamped z (length buffer)) (toZ-ofZ w64 got f))
-      where
-        go : (z : ℤ) → ltZ z (pos 0) ≡ false → (z ≡ pos 0 → ⊥) → n ≡ clamped z (length buffer) → Turned steps a buffer z b More
-        go (pos k) h some e =
-            record { state = p ∙ ap (λ (j : ℕ). takenBy steps a (take j buffer)) e; ends = rw (ne-eqb k 0 (λ z. some (ap pos z))) }
-        go (negsuc k) h some e = let z : _≡_ {A = ℕ} 0 1 = cc in let w : ⊥ = omega arith in absurd w
+        let r = read-some buffer got f true n some below (λ k z. e ∙ ap (λ (y : ℤ). clamped y (length buffer)) z) in
+        record { state = p ∙ ap (takenBy steps a) (r .piece); ends = r .end }
 
   -- ---- all turns
 

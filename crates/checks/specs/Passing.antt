@@ -7,10 +7,9 @@ use lib.Dec.{eqb}
 use Rattle.frames.specs.declared.ReadStep.{ReadStep}
 use Rattle.frames.specs.declared.ReadStep.the-variants.{Step, NoFrame}
 use Rattle.frames.specs.Steps.{readStep}
-use Rattle.replay.specs.Texts.{lineFeed, lines}
-use Rattle.replay.specs.Pieces.{freshReader, lineHeld, pushOf, isEmpty}
-use Rattle.replay.specs.Folds.{overLines}
-use Rattle.phones.specs.Listed.{numberAfter}
+use Rattle.lines.specs.Texts.{lineFeed, lines, oneMore}
+use Rattle.lines.specs.Readers.{freshReader, lineHeld, isEmpty, readerAfter}
+use Rattle.lines.specs.Folds.{overLines}
 use Rattle.checks.specs.declared.passed.Passed.{Passed}
 use Rattle.checks.specs.declared.passed.Passing.{Passing}
 
@@ -23,7 +22,7 @@ isNone NoFrame = true
 
 -- one more where it is so, as far as a number goes
 unfoldable pub counted : ℕ → Bool → ℕ
-counted n so = cond so (numberAfter n) n
+counted n so = cond so (oneMore n) n
 
 -- the first line where it was so; 0 for none
 unfoldable pub firstNoted : ℕ → ℕ → Bool → ℕ
@@ -66,8 +65,7 @@ heldEnded p = passedAfterRead (p .passed) (readStep (lineHeld (p .reader))) (p .
 
 unfoldable pub afterByte : Passing → ℕ → Passing
 afterByte p b =
-    cond (eqb b lineFeed) (record { passed = heldEnded p; reader = freshReader; last = 0 })
-    (record { passed = p .passed; reader = pushOf (p .reader) b; last = b })
+    record { passed = cond (eqb b lineFeed) (heldEnded p) (p .passed); reader = readerAfter (p .reader) b; last = cond (eqb b lineFeed) 0 b }
 
 abbrev pub passedBy : Passing → List ℕ → Passing
 passedBy p [] = p

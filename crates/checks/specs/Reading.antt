@@ -6,10 +6,10 @@ use mathlib.Core.Bool.{Bool, true, false}
 use Prim.Native.Nat.{ℕ}
 use lib.ListN.{length}
 use lib.IntN.{ℤ}
-use Rattle.replay.specs.Pieces.{together}
-use Rattle.shell.specs.declared.End.{End}
-use Rattle.shell.specs.declared.End.the-variants.{More, Input, CannotRead, CannotWrite}
-use Rattle.shell.specs.Loop.{mostTurns, endOf, given}
+use Rattle.lines.specs.Texts.{together}
+use Rattle.lines.specs.declared.End.{End}
+use Rattle.lines.specs.declared.End.the-variants.{More}
+use Rattle.lines.specs.Turns.{mostTurns, endOf, given, isInput}
 use Rattle.followed.specs.Follow.{runFollowed, newFollowing, followedBy}
 use Rattle.phones.specs.Listed.{listOf, newListing, listedBy}
 use Rattle.checks.specs.Passing.{passedOf, newPassing, passedBy}
@@ -40,13 +40,6 @@ module _ (steps : Bool) where
     pub last : ℤ
     pub ends : end ≡ endOf last true
     pub patient : end ≡ More → length pieces ≡ mostTurns
-
--- all was read
-abbrev pub isInput : End → Bool
-isInput More = false
-isInput Input = true
-isInput CannotRead = false
-isInput CannotWrite = false
 
 -- the run and the list are those that the pieces of each text, as one text, are, and so is what is passed over; all of it was read where the
 -- last read answered that it ends

@@ -2,7 +2,7 @@
 ghost use mathlib.Core.Path.{_≡_};
 ghost use Rattle.checks.specs.Passing.{isNone, counted, firstNoted, passedAfterRead, newPassing, afterByte, passedBy, finishedPassed};
 use frames::ReadStep;
-use replay::Reader;
+use lines::Reader;
 
 const CARRIAGE_RETURN: u8 = 13;
 
@@ -33,7 +33,7 @@ pub(crate) fn begin() -> Passing
             first: 0,
             cr: 0,
         },
-        reader: replay::fresh_reader(),
+        reader: lines::fresh_reader(),
         last: 0,
     }
 }
@@ -52,9 +52,7 @@ fn counted(n: usize, so: bool) -> usize
     ensures { λ r. ⌜ r ≡ counted n so ⌝ }
 {
     if so {
-        if n < usize::MAX {
-            return n + 1;
-        }
+        return lines::one_more(n);
     }
     n
 }
@@ -89,17 +87,18 @@ fn after_byte(p: Passing, b: u8) -> Passing
 {
     let passed = p.passed;
     let reader = p.reader;
-    if b != replay::LINE_FEED {
+    let next = lines::taken(reader, b);
+    if b != lines::LINE_FEED {
         return Passing {
             passed: passed,
-            reader: replay::pushed(reader, b),
+            reader: next,
             last: b,
         };
     }
     let read = replay::step_held(reader);
     Passing {
         passed: after_line(passed, read, p.last),
-        reader: replay::fresh_reader(),
+        reader: next,
         last: 0,
     }
 }
@@ -124,7 +123,7 @@ pub(crate) fn finish(p: Passing) -> Passed
 {
     let passed = p.passed;
     let reader = p.reader;
-    if replay::is_empty(reader) {
+    if lines::is_empty(reader) {
         return passed;
     }
     let read = replay::step_held(reader);

@@ -1,21 +1,20 @@
 // Both texts, each from its descriptor to its end: the step lines from standard input, and then the phones' records from the one that the
 // launcher opens. One loop does for both.
 ghost use mathlib.Core.Path.{_≡_};
-ghost use Rattle.checks.specs.Reading.{newTexts, takenBy, isInput, Turned, ReadOn, ReadsBoth};
+ghost use Rattle.lines.specs.Turns.{isInput};
+ghost use Rattle.checks.specs.Reading.{newTexts, takenBy, Turned, ReadOn, ReadsBoth};
 use crate::passed;
 use crate::passed::Passed;
 use crate::passed::Passing;
 use followed::Following;
 use followed::Run;
 use libc::STDIN_FILENO;
+use lines::End;
+use lines::PIECE;
 use phones::Listed;
 use phones::Listing;
-use shell::End;
 
 const PHONES_FILENO: i32 = 5;
-
-// How many bytes are read at once.
-const PIECE: usize = 16384;
 
 // Both texts as far as they were read, and what is passed over of the step lines, and of the phones'.
 pub struct Texts {
@@ -130,17 +129,6 @@ fn read_on(t: Texts, steps: bool) -> Taken
     }
 }
 
-fn is_input(end: End) -> bool
-    ensures { λ r. ⌜ r ≡ isInput end ⌝ }
-{
-    match end {
-        End::More => false,
-        End::Input => true,
-        End::CannotRead => false,
-        End::CannotWrite => false,
-    }
-}
-
 pub(crate) fn read() -> Both
     ensures { λ r. ⌜ ReadsBoth r ⌝ }
 {
@@ -159,7 +147,7 @@ pub(crate) fn read() -> Both
         list: phones::finish(l),
         passed: passed::finish(p),
         ends: passed::finish(q),
-        steps: is_input(ended),
-        phones: is_input(over),
+        steps: lines::is_input(ended),
+        phones: lines::is_input(over),
     }
 }

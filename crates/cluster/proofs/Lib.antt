@@ -2,5 +2,6 @@
 pub mod Masks
 pub mod Changed
 pub mod Good
+pub mod Sound
 pub mod Fresh
 pub mod Results

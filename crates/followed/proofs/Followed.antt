@@ -5,7 +5,7 @@ use mathlib.Core.Bool.{Bool, true, false, cond}
 use mathlib.Core.List.{List, [], _∷_, _++_}
 use Prim.Native.Nat.{ℕ}
 use native.Mathlib.Omega.{arith}
-use Rattle.words.proofs.Held.{held-framed}
+use Rattle.lines.proofs.Held.{held-framed}
 use Rattle.log.specs.declared.Entry.{Entry}
 use Rattle.log.specs.declared.Log.{Log}
 use Rattle.log.specs.Logs.{emptyLog, live}
@@ -17,16 +17,17 @@ use Rattle.frames.specs.declared.ReadStep.the-variants.{NoFrame}
 use Rattle.frames.specs.Layout.{stepBytes}
 use Rattle.frames.specs.Steps.{stepIn, readStep}
 use Rattle.histories.specs.Longest.{longerOf, longestOf}
-use Rattle.replay.specs.declared.Reader.{Reader}
-use Rattle.replay.specs.Texts.{lines, respond, answerTo, recordAfter, recordsOn}
-use Rattle.replay.specs.Pieces.{kept, lineHeld}
-use Rattle.replay.specs.Folds.{overLines}
-use Rattle.replay.proofs.Whole.{StandsFor}
-use Rattle.replay.proofs.Folded.{reader-append, bytes-append, lines-append, folded}
+use Rattle.lines.specs.declared.Reader.{Reader}
+use Rattle.lines.specs.Texts.{lines, oneMore}
+use Rattle.replay.specs.Texts.{respond, answerTo, recordAfter, recordsOn}
+use Rattle.lines.specs.Readers.{width, lineHeld}
+use Rattle.lines.specs.Folds.{overLines}
+use Rattle.lines.proofs.Readers.{StandsFor}
+use Rattle.lines.proofs.Folded.{reader-append, bytes-append, lines-append, folded}
 use Rattle.followed.specs.declared.Run.{Run}
 use Rattle.followed.specs.declared.Following.{Following}
 use Rattle.followed.specs.Longest.{keptLog}
-use Rattle.followed.specs.Follow.{begins, startsAfter, newRun, runAfterRead, runAfterLine, runFollowed, NoneStarts, newFollowing, followedBy, finishedRun}
+use Rattle.followed.specs.Follow.{begins, newRun, runAfterRead, runAfterLine, runFollowed, NoneStarts, newFollowing, followedBy, finishedRun}
 use Rattle.followed.proofs.Covering.{kept-live}
 
 -- ---- however the text is cut
@@ -34,7 +35,7 @@ use Rattle.followed.proofs.Covering.{kept-live}
 -- a line that is held reads as the one that it stands for
 same : (r : Run) (d : Reader) (p : List ℕ) → StandsFor d p → runAfterLine r (lineHeld d) ≡ runAfterLine r p
 unfolding lineHeld
-same r d p h = ap (runAfterRead r) (held-framed stepBytes stepIn NoFrame kept (omega arith) (d .held) (d .fill) (d .over) h)
+same r d p h = ap (runAfterRead r) (held-framed stepBytes stepIn NoFrame width (omega arith) (d .held) (d .fill) (d .over) h)
 
 -- THE THEOREM: at the end, a text that was followed is its run
 pub followed-text : (text : List ℕ) → finishedRun (followedBy newFollowing text) ≡ runFollowed text
@@ -75,7 +76,7 @@ goes-on r l e = rw e (kept-live (r .longest) (respond (r .cluster) (readStep l) 
 
 -- for the code
 module _ (r : Run) (read : ReadStep) (o : Outcome) (g : Log) (p : o ≡ respond (r .cluster) read) where
-  pub after-start : (e : Log) (n : ℕ) → begins read (o .answer) ≡ true → e ≡ emptyLog → g ≡ keptLog e (o .cluster) → n ≡ startsAfter (r .starts)
+  pub after-start : (e : Log) (n : ℕ) → begins read (o .answer) ≡ true → e ≡ emptyLog → g ≡ keptLog e (o .cluster) → n ≡ oneMore (r .starts)
       → _≡_ {A = Run} (record { cluster = o .cluster; longest = g; starts = n }) (runAfterRead r read)
   unfolding runAfterRead
   after-start e n b z q m =

@@ -10,22 +10,23 @@ use Rattle.base.proofs.Facts.{lt-or-le}
 use Rattle.cluster.specs.declared.Cluster.{Cluster}
 use Rattle.frames.specs.Steps.{readStep}
 use Rattle.replay.specs.Texts.{answerTo, recordAfter}
-use Rattle.replay.specs.Folds.{overLines}
+use Rattle.lines.specs.Folds.{overLines}
 use Rattle.followed.specs.declared.Run.{Run}
-use Rattle.followed.specs.Follow.{begins, mostStarts, startsAfter, runAfterRead, runAfterLine, NoneStarts}
+use Rattle.lines.specs.Texts.{mostCounted, oneMore}
+use Rattle.followed.specs.Follow.{begins, runAfterRead, runAfterLine, NoneStarts}
 use Rattle.followed.proofs.Followed.{line-record}
 
 -- ---- how many
 
-start-counted : (n : ℕ) → 0 < startsAfter n
-unfolding startsAfter
-start-counted n = ⊎-elim below above (lt-or-le n mostStarts)
+start-counted : (n : ℕ) → 0 < oneMore n
+unfolding oneMore
+start-counted n = ⊎-elim below above (lt-or-le n mostCounted)
   where
-    below : n < mostStarts → 0 < startsAfter n
-    below h = rw (lt-ltb n mostStarts h) (omega arith)
+    below : n < mostCounted → 0 < oneMore n
+    below h = rw (lt-ltb n mostCounted h) (omega arith)
 
-    above : mostStarts ≤ n → 0 < startsAfter n
-    above h = rw (le-ltb n mostStarts h) (omega arith)
+    above : mostCounted ≤ n → 0 < oneMore n
+    above h = rw (le-ltb n mostCounted h) (omega arith)
 
 module _ (r : Run) (l : List ℕ) where
   one-starts : begins (readStep l) (answerTo (r .cluster) l .answer) ≡ true → 0 < runAfterLine r l .starts

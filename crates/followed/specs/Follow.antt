@@ -3,8 +3,7 @@
 use mathlib.Core.Path.{_≡_}
 use mathlib.Core.Bool.{Bool, true, false, cond, _&&_}
 use mathlib.Core.List.{List, [], _∷_}
-use Prim.Native.Nat.{ℕ, _+_, _-_, _^_}
-use lib.Dec.{ltb}
+use Prim.Native.Nat.{ℕ}
 use Rattle.log.specs.Logs.{emptyLog}
 use Rattle.cluster.specs.declared.Cluster.{Cluster}
 use Rattle.cluster.specs.Servers.{zeroCluster}
@@ -14,9 +13,10 @@ use Rattle.rules.specs.Rules.{isStart}
 use Rattle.frames.specs.declared.ReadStep.{ReadStep}
 use Rattle.frames.specs.declared.ReadStep.the-variants.{Step, NoFrame}
 use Rattle.frames.specs.Steps.{readStep}
-use Rattle.replay.specs.Texts.{lines, respond, answerTo}
-use Rattle.replay.specs.Pieces.{freshReader}
-use Rattle.replay.specs.Folds.{readerOver, overLines, overBytes, atEnd}
+use Rattle.lines.specs.Texts.{lines, oneMore}
+use Rattle.replay.specs.Texts.{respond, answerTo}
+use Rattle.lines.specs.Readers.{freshReader, readerOver}
+use Rattle.lines.specs.Folds.{overLines, overBytes, atEnd}
 use Rattle.followed.specs.declared.Run.{Run}
 use Rattle.followed.specs.declared.Following.{Following}
 use Rattle.followed.specs.Longest.{keptLog}
@@ -34,13 +34,6 @@ abbrev pub begins : ReadStep → Answer → Bool
 begins (Step s) a = isStart s && isDone a
 begins NoFrame a = false
 
--- starts are counted as far as a number goes
-abbrev pub mostStarts : ℕ
-mostStarts = 2 ^ 64 - 1
-
-unfoldable pub startsAfter : ℕ → ℕ
-startsAfter n = cond (ltb n mostStarts) (n + 1) n
-
 -- before the first line: the zero record, nothing covered, no start
 abbrev pub newRun : Run
 newRun = record { cluster = zeroCluster; longest = emptyLog; starts = 0 }
@@ -52,7 +45,7 @@ runAfterRead r read =
     (record {
       cluster = respond (r .cluster) read .cluster;
       longest = keptLog emptyLog (respond (r .cluster) read .cluster);
-      starts = startsAfter (r .starts);
+      starts = oneMore (r .starts);
     })
     (record {
       cluster = respond (r .cluster) read .cluster;

@@ -1,11 +1,11 @@
 // A run that is followed line by line: the record, the longest beginning that was covered since the last start that succeeded, and how
 // many starts have.
 ghost use mathlib.Core.Path.{_≡_};
-ghost use Rattle.followed.specs.Follow.{isDone, begins, startsAfter, runAfterRead, newFollowing, followedBy, finishedRun};
+ghost use Rattle.followed.specs.Follow.{isDone, begins, runAfterRead, newFollowing, followedBy, finishedRun};
 use cluster::Cluster;
 use frames::ReadStep;
+use lines::Reader;
 use log::Log;
-use replay::Reader;
 use steps::Answer;
 
 pub mod longest;
@@ -22,9 +22,6 @@ pub struct Following {
     pub reader: Reader,
 }
 
-// As many starts as are counted.
-const MOST_STARTS: usize = 0xffff_ffff_ffff_ffff;
-
 // Before the first line.
 pub fn begin() -> Following
     ensures { λ r. ⌜ r ≡ newFollowing ⌝ }
@@ -35,7 +32,7 @@ pub fn begin() -> Following
             longest: log::empty_log(),
             starts: 0,
         },
-        reader: replay::fresh_reader(),
+        reader: lines::fresh_reader(),
     }
 }
 
@@ -65,15 +62,6 @@ fn begins(read: ReadStep, a: Answer) -> bool
     is_done(a)
 }
 
-fn starts_after(n: usize) -> usize
-    ensures { λ r. ⌜ r ≡ startsAfter n ⌝ }
-{
-    if n < MOST_STARTS {
-        return n + 1;
-    }
-    n
-}
-
 // The run after a line that reads so. A start that succeeds begins it anew.
 fn after_line(r: Run, read: ReadStep) -> Run
     ensures { λ q. ⌜ q ≡ runAfterRead r read ⌝ }
@@ -86,7 +74,7 @@ fn after_line(r: Run, read: ReadStep) -> Run
         return Run {
             cluster: d,
             longest: longest::longer(log::empty_log(), d),
-            starts: starts_after(r.starts),
+            starts: lines::one_more(r.starts),
         };
     }
     let kept = r.longest;
@@ -107,13 +95,11 @@ pub fn follow(f: Following, piece: &[u8]) -> Following
     while i < piece.len() {
         let b = piece[i];
         i += 1;
-        if b != replay::LINE_FEED {
-            reader = replay::pushed(reader, b);
-            continue;
+        if b == lines::LINE_FEED {
+            let read = replay::step_held(reader);
+            run = after_line(run, read);
         }
-        let read = replay::step_held(reader);
-        run = after_line(run, read);
-        reader = replay::fresh_reader();
+        reader = lines::taken(reader, b);
     }
     Following {
         run: run,
@@ -127,7 +113,7 @@ pub fn finish(f: Following) -> Run
 {
     let run = f.run;
     let reader = f.reader;
-    if replay::is_empty(reader) {
+    if lines::is_empty(reader) {
         return run;
     }
     after_line(run, replay::step_held(reader))

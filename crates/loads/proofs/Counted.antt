@@ -8,8 +8,7 @@ use lib.Seq.{getD-take}
 use Rattle.cluster.specs.declared.Server.{Server}
 use Rattle.cluster.specs.declared.Cluster.{Cluster}
 use Rattle.cluster.specs.Servers.{pastServer}
-use Rattle.rules.proofs.Servers.{ServerSound}
-use Rattle.rules.proofs.Records.{Sound, counted-sound}
+use Rattle.cluster.proofs.Sound.{ServerSound, Sound, counted-sound}
 
 abbrev pub counted : Cluster → List Server
 counted c = take (c .count) (c .servers)

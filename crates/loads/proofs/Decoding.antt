@@ -32,8 +32,7 @@ use Rattle.cluster.specs.WellFormed.{wellFormed}
 use Rattle.cluster.specs.Ranges.{Fits}
 use Rattle.cluster.proofs.Changed.{replaced-here}
 use Rattle.cluster.proofs.Good.{good}
-use Rattle.rules.proofs.Servers.{ServerSound}
-use Rattle.rules.proofs.Records.{Sound}
+use Rattle.cluster.proofs.Sound.{ServerSound, Sound}
 use Rattle.saved.specs.Layout.{serverFrame, entryFrame, noteFrame, reportFrame}
 use Rattle.saved.specs.Saved.{noteFrames, queuedReports, serverFrames, allFrames, framesOf, edition, saveOf}
 use Rattle.saved.proofs.Frames.{saved-frames}

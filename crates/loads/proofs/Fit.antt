@@ -28,9 +28,9 @@ use Rattle.cluster.specs.Ranges.{FitsHead, FitsServer, Fits}
 use Rattle.cluster.specs.Servers.{mostServers, zeroServer, zeroCluster, pastServer, serverAt, withLog, withMail, withServer}
 use Rattle.cluster.proofs.Changed.{fits-head, fits-log, fits-mail}
 use Rattle.cluster.proofs.Fresh.{good-fresh, fits-fresh}
-use Rattle.rules.proofs.Lists.{all-set}
-use Rattle.rules.proofs.Ranges.{fits-appended}
-use Rattle.replay.specs.Texts.{lines}
+use Rattle.base.proofs.Replaced.{all-set}
+use Rattle.log.proofs.Ranges.{fits-appended}
+use Rattle.lines.specs.Texts.{lines}
 use Rattle.saved.specs.Written.{mostBytes}
 use Rattle.loads.specs.declared.Draft.{Draft}
 use Rattle.loads.specs.Decoded.{headIn, serverIn, entryIn, reportIn, toldBy, counting, beginning, telling, withFrame, roomy, decodedBy, freshDraft, decoded}

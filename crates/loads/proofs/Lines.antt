@@ -9,8 +9,8 @@ use borrow.Author.Tests.{ne-eqb}
 use lib.ListN.{length, getD, take, drop, length-take, length-drop, take-append-drop, drop-of-length-le}
 use lib.Seq.{take-suc, drop-cons, drop-drop, getD-drop}
 use Rattle.hex.specs.Lines.{bytesOf}
-use Rattle.replay.specs.Texts.{lineFeed, lines}
-use Rattle.replay.proofs.Lines.{Plain, none, more, plain-snoc, line-first, line-last}
+use Rattle.lines.specs.Texts.{lineFeed, lines}
+use Rattle.lines.proofs.Lines.{Plain, none, more, plain-snoc, line-first, line-last}
 use Rattle.loads.specs.declared.Draft.{Draft}
 use Rattle.loads.specs.Decoded.{withFrame, roomy, decodedBy, freshDraft, decoded}
 

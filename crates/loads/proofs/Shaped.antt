@@ -29,8 +29,7 @@ use Rattle.cluster.specs.declared.Cluster.{Cluster}
 use Rattle.cluster.specs.WellFormed.{wellFormed}
 use Rattle.cluster.specs.Ranges.{Fits}
 use Rattle.cluster.proofs.Good.{good}
-use Rattle.rules.proofs.Servers.{ServerSound}
-use Rattle.rules.proofs.Records.{Sound}
+use Rattle.cluster.proofs.Sound.{ServerSound, Sound}
 use Rattle.saved.specs.declared.Sort.{Sort}
 use Rattle.saved.specs.declared.Sort.the-variants as S
 use Rattle.saved.specs.Layout.{sortNumber, sizeOf, usedNotes, firstFrame, serverFrame, entryFrame, reportFrame, noteFrame}

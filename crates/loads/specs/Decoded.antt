@@ -15,7 +15,7 @@ use Rattle.cluster.specs.declared.Head.{Head}
 use Rattle.cluster.specs.declared.Server.{Server}
 use Rattle.cluster.specs.declared.Cluster.{Cluster}
 use Rattle.cluster.specs.Servers.{mostServers, withLog, withMail, serverAt, zeroCluster, withServer}
-use Rattle.replay.specs.Texts.{lines}
+use Rattle.lines.specs.Texts.{lines}
 use Rattle.saved.specs.declared.Sort.the-variants as S
 use Rattle.saved.specs.Layout.{sortNumber}
 use Rattle.saved.specs.Written.{mostBytes}

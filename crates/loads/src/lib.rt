@@ -13,28 +13,21 @@ use clock::Time;
 use cluster::Cluster;
 use cluster::Head;
 use cluster::Server;
+use lines::LINE_FEED;
 use log::Entry;
 use mail::Report;
+use saved::ENTRY;
+use saved::FIRST;
+use saved::NOTE;
+use saved::REPORT;
+use saved::SERVER;
 use saved::Saved;
 use steps::Answer;
 use steps::Outcome;
 use steps::Refusal;
 
-const LINE_FEED: u8 = 10;
-
 // The bytes of a frame in the room of the longest.
 pub const BYTES: usize = saved::SERVER_BYTES;
-
-// The sorts' numbers.
-pub const FIRST: u8 = 0;
-
-pub const SERVER: u8 = 1;
-
-pub const ENTRY: u8 = 2;
-
-pub const NOTE: u8 = 3;
-
-const REPORT: u8 = 4;
 
 // The role of a primary, and the greatest.
 pub const PRIMARY: u8 = 1;

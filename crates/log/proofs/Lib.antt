@@ -7,4 +7,5 @@ pub mod Placed
 pub mod Tidy
 pub mod Positions
 pub mod Orderly
+pub mod Ranges
 pub mod Results

@@ -10,9 +10,9 @@ use borrow.Author.Tests.{lt-ltb, le-ltb}
 use lib.ListN.{length, take, set, length-append, length-set, length-replicate}
 use lib.Seq.{take-all, take-append-le, take-suc-set}
 use Rattle.base.proofs.Facts.{lt-or-le}
-use Rattle.replay.specs.Texts.{lines}
-use Rattle.replay.specs.Folds.{overLines}
-use Rattle.replay.proofs.Folded.{lines-append}
+use Rattle.lines.specs.Texts.{lines, mostCounted, oneMore}
+use Rattle.lines.specs.Folds.{overLines}
+use Rattle.lines.proofs.Folded.{lines-append}
 use Rattle.histories.specs.declared.PhoneRecord.{PhoneRecord}
 use Rattle.histories.specs.Rules.{noRecord}
 use Rattle.histories.specs.Committed.{Committed}
@@ -22,17 +22,17 @@ use Rattle.phones.specs.declared.ReadRecord.{ReadRecord}
 use Rattle.phones.specs.declared.ReadRecord.the-variants.{Record, NoRecord}
 use Rattle.phones.specs.declared.Listed.{Listed}
 use Rattle.phones.specs.Records.{readRecord}
-use Rattle.phones.specs.Listed.{mostKept, newList, recordsKept, mostLines, numberAfter, lineNumber, withRecord, spoilt, takesIn, listAfterRead, listAfterLine, listOf, Reads, FirstBad}
+use Rattle.phones.specs.Listed.{mostKept, newList, recordsKept, lineNumber, withRecord, spoilt, takesIn, listAfterRead, listAfterLine, listOf, Reads, FirstBad}
 
-number-more : (n : ℕ) → numberAfter (lineNumber n) ≡ lineNumber (n + 1)
-unfolding numberAfter
-number-more n = ⊎-elim below above (lt-or-le (lineNumber n) mostLines)
+number-more : (n : ℕ) → oneMore (lineNumber n) ≡ lineNumber (n + 1)
+unfolding oneMore
+number-more n = ⊎-elim below above (lt-or-le (lineNumber n) mostCounted)
   where
-    below : lineNumber n < mostLines → numberAfter (lineNumber n) ≡ lineNumber (n + 1)
-    below h = rw (lt-ltb (lineNumber n) mostLines h) (omega arith)
+    below : lineNumber n < mostCounted → oneMore (lineNumber n) ≡ lineNumber (n + 1)
+    below h = rw (lt-ltb (lineNumber n) mostCounted h) (omega arith)
 
-    above : mostLines ≤ lineNumber n → numberAfter (lineNumber n) ≡ lineNumber (n + 1)
-    above h = rw (le-ltb (lineNumber n) mostLines h) (omega arith)
+    above : mostCounted ≤ lineNumber n → oneMore (lineNumber n) ≡ lineNumber (n + 1)
+    above h = rw (le-ltb (lineNumber n) mostCounted h) (omega arith)
 
 -- ---- one line more
 
@@ -70,8 +70,8 @@ module _ {xs : List PhoneRecord} {s : Listed} (u : Holds xs s) (l : List ℕ) wh
   unfolding withRecord
   with-more r = ⊎-elim below above (lt-or-le (length xs) mostKept)
     where
-      counted : numberAfter (s .number) ≡ lineNumber (length (xs ++ (r ∷ [])))
-      counted = ap numberAfter (u .number) ∙ number-more (length xs) ∙ ap lineNumber (sym (snoc-long xs r))
+      counted : oneMore (s .number) ≡ lineNumber (length (xs ++ (r ∷ [])))
+      counted = ap oneMore (u .number) ∙ number-more (length xs) ∙ ap lineNumber (sym (snoc-long xs r))
 
       below : length xs < mostKept → Holds (xs ++ (r ∷ [])) (withRecord s r)
       below h =

@@ -3,11 +3,11 @@ use mathlib.Core.Path.{_≡_, ap}
 use mathlib.Core.List.{List, _++_}
 use Prim.Native.Nat.{ℕ}
 use native.Mathlib.Omega.{arith}
-use Rattle.words.proofs.Held.{held-framed}
-use Rattle.replay.specs.declared.Reader.{Reader}
-use Rattle.replay.specs.Pieces.{kept, lineHeld}
-use Rattle.replay.proofs.Whole.{StandsFor}
-use Rattle.replay.proofs.Folded.{reader-append, bytes-append, folded}
+use Rattle.lines.proofs.Held.{held-framed}
+use Rattle.lines.specs.declared.Reader.{Reader}
+use Rattle.lines.specs.Readers.{width, lineHeld}
+use Rattle.lines.proofs.Readers.{StandsFor}
+use Rattle.lines.proofs.Folded.{reader-append, bytes-append, folded}
 use Rattle.phones.specs.declared.ReadRecord.the-variants.{NoRecord}
 use Rattle.phones.specs.declared.Listed.{Listed}
 use Rattle.phones.specs.declared.Listing.{Listing}
@@ -17,7 +17,7 @@ use Rattle.phones.specs.Listed.{newList, listAfterRead, listAfterLine, l
 -- a line that is held reads as the one that it stands for
 same : (s : Listed) (d : Reader) (p : List ℕ) → StandsFor d p → listAfterLine s (lineHeld d) ≡ listAfterLine s p
 unfolding lineHeld
-same s d p h = ap (listAfterRead s) (held-framed recordBytes recordOf NoRecord kept (omega arith) (d .held) (d .fill) (d .over) h)
+same s d p h = ap (listAfterRead s) (held-framed recordBytes recordOf NoRecord width (omega arith) (d .held) (d .fill) (d .over) h)
 
 -- THE THEOREM: at the end, a text that was read is its list
 pub listed-text : (text : List ℕ) → finishedList (listedBy newListing text) ≡ listOf text

@@ -3,12 +3,12 @@
 use mathlib.Core.Path.{_≡_}
 use mathlib.Core.Bool.{true, false, cond}
 use mathlib.Core.List.{List, [], _∷_, _++_}
-use Prim.Native.Nat.{ℕ, _+_, _-_, _^_, min}
+use Prim.Native.Nat.{ℕ, _+_, min}
 use lib.Dec.{ltb}
 use lib.ListN.{set, take, replicate}
-use Rattle.replay.specs.Texts.{lines}
-use Rattle.replay.specs.Pieces.{freshReader}
-use Rattle.replay.specs.Folds.{readerOver, overLines, overBytes, atEnd}
+use Rattle.lines.specs.Texts.{lines, mostCounted, oneMore}
+use Rattle.lines.specs.Readers.{freshReader, readerOver}
+use Rattle.lines.specs.Folds.{overLines, overBytes, atEnd}
 use Rattle.histories.specs.declared.PhoneRecord.{PhoneRecord}
 use Rattle.histories.specs.Rules.{noRecord}
 use Rattle.histories.specs.Checking.{mostRecords}
@@ -31,21 +31,15 @@ abbrev pub recordsKept : Listed → List PhoneRecord
 recordsKept s = take (s .count) (s .records)
 
 -- lines are counted from 1, as far as a number goes
-abbrev pub mostLines : ℕ
-mostLines = 2 ^ 64 - 1
-
 abbrev pub lineNumber : ℕ → ℕ
-lineNumber before = min (before + 1) mostLines
-
-unfoldable pub numberAfter : ℕ → ℕ
-numberAfter n = cond (ltb n mostLines) (n + 1) n
+lineNumber before = min (before + 1) mostCounted
 
 -- one record more, kept where there is room
 unfoldable pub withRecord : Listed → PhoneRecord → Listed
 withRecord s r =
     cond (ltb (s .count) mostKept)
-    (record { records = set (s .records) (s .count) r; count = s .count + 1; number = numberAfter (s .number); bad = s .bad })
-    (record { records = s .records; count = s .count; number = numberAfter (s .number); bad = s .bad })
+    (record { records = set (s .records) (s .count) r; count = s .count + 1; number = oneMore (s .number); bad = s .bad })
+    (record { records = s .records; count = s .count; number = oneMore (s .number); bad = s .bad })
 
 -- the line is bad
 abbrev pub spoilt : Listed → Listed

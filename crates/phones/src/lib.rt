@@ -1,21 +1,18 @@
 // The phones' records as a text: a line of hexadecimal each, read in whatever pieces it arrives, in fixed memory.
 ghost use mathlib.Core.Path.{_≡_};
-ghost use Rattle.replay.specs.Pieces.{lineHeld};
+ghost use Rattle.lines.specs.Readers.{lineHeld};
 ghost use Rattle.phones.specs.Records.{recordIn, readRecord};
-ghost use Rattle.phones.specs.Listed.{newListing, numberAfter, withRecord, spoilt, listAfterRead, listedBy, finishedList};
+ghost use Rattle.phones.specs.Listed.{newListing, withRecord, spoilt, listAfterRead, listedBy, finishedList};
 use clock::Time;
 use histories::PhoneRecord;
 use histories::kept::MOST_KEPT;
-use replay::Reader;
+use lines::Reader;
 use words::word;
 
 // The bytes of a record, and its line's characters.
 pub const RECORD_BYTES: usize = 12;
 
 pub const RECORD_CHARS: usize = hex::CHARS * RECORD_BYTES;
-
-// The greatest number that a line can have.
-const MOST_LINES: usize = 0xffff_ffff_ffff_ffff;
 
 pub enum ReadRecord {
     Record(PhoneRecord),
@@ -93,17 +90,8 @@ pub fn begin() -> Listing
             number: 1,
             bad: false,
         },
-        reader: replay::fresh_reader(),
+        reader: lines::fresh_reader(),
     }
-}
-
-fn number_after(n: usize) -> usize
-    ensures { λ r. ⌜ r ≡ numberAfter n ⌝ }
-{
-    if n < MOST_LINES {
-        return n + 1;
-    }
-    n
 }
 
 // One record more, kept where there is room.
@@ -111,7 +99,7 @@ fn with_record(s: Listed, r: PhoneRecord) -> Listed
     ensures { λ q. ⌜ q ≡ withRecord s r ⌝ }
 {
     let mut q = s;
-    q.number = number_after(s.number);
+    q.number = lines::one_more(s.number);
     let at = s.count;
     if at < MOST_KEPT {
         q.records[at] = r;
@@ -149,13 +137,11 @@ pub fn list(l: Listing, piece: &[u8]) -> Listing
     while i < piece.len() {
         let b = piece[i];
         i += 1;
-        if b != replay::LINE_FEED {
-            reader = replay::pushed(reader, b);
-            continue;
+        if b == lines::LINE_FEED {
+            let read = record_held(reader);
+            s = after_line(s, read);
         }
-        let read = record_held(reader);
-        s = after_line(s, read);
-        reader = replay::fresh_reader();
+        reader = lines::taken(reader, b);
     }
     Listing {
         list: s,
@@ -169,7 +155,7 @@ pub fn finish(l: Listing) -> Listed
 {
     let s = l.list;
     let reader = l.reader;
-    if replay::is_empty(reader) {
+    if lines::is_empty(reader) {
         return s;
     }
     after_line(s, record_held(reader))

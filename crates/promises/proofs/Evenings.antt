@@ -14,7 +14,8 @@ use Rattle.frames.specs.declared.ReadStep.{ReadStep}
 use Rattle.frames.specs.declared.ReadStep.the-variants as R
 use Rattle.frames.specs.Steps.{readStep}
 use Rattle.frames.proofs.Steps.{read-step-fits}
-use Rattle.replay.specs.Texts.{lineFeed, onLine, lines, respond, answerTo, lineOf, answersTo, recordAfter, answers, leaves}
+use Rattle.lines.specs.Texts.{lineFeed, onLine, lines}
+use Rattle.replay.specs.Texts.{respond, answerTo, lineOf, answersTo, recordAfter, answers, leaves}
 use Rattle.loads.proofs.Loads.{gives-back}
 use Rattle.promises.specs.Written.{isEnded, CarriedInTexts}
 

@@ -22,7 +22,8 @@ use Rattle.frames.specs.declared.ReadStep.the-variants as R
 use Rattle.frames.specs.Layout.{bytesOfFrame}
 use Rattle.frames.specs.Steps.{readStep, writeStep}
 use Rattle.frames.proofs.Steps.{read-step-fits, read-written-step}
-use Rattle.replay.specs.Texts.{lineFeed, lines, respond, answerTo, recordAfter}
+use Rattle.lines.specs.Texts.{lineFeed, lines}
+use Rattle.replay.specs.Texts.{respond, answerTo, recordAfter}
 use Rattle.safety.proofs.Stepped.{Now, begun}
 use Rattle.promises.specs.Runs.{Event, comes, overnight, happens, runTo, Onward}
 use Rattle.promises.specs.Texts.{Given, a-line, a-night, takenAll, NoneBegins, withRead, eventsIn, IsRun, TextsAreRuns, linesFor, RunsAreTexts}

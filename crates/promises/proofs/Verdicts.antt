@@ -16,7 +16,8 @@ use Rattle.rules.specs.Rules.{isStart}
 use Rattle.frames.specs.declared.ReadStep.{ReadStep}
 use Rattle.frames.specs.declared.ReadStep.the-variants as R
 use Rattle.frames.specs.Steps.{readStep}
-use Rattle.replay.specs.Texts.{lines, answerTo, recordAfter, recordsOn}
+use Rattle.lines.specs.Texts.{lines}
+use Rattle.replay.specs.Texts.{answerTo, recordAfter, recordsOn}
 use Rattle.histories.specs.declared.PhoneRecord.{PhoneRecord}
 use Rattle.histories.specs.declared.Checked.the-variants.{Accepted}
 use Rattle.histories.specs.Checking.{mostRecords, checkOf}

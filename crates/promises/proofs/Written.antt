@@ -23,7 +23,8 @@ use Rattle.answers.specs.declared.ReadAnswer.the-variants as A
 use Rattle.words.specs.Words.{framed}
 use Rattle.answers.specs.Answers.{answerFrame, bytesOfTelling, writeTelling, writeAnswer, readAnswer}
 use Rattle.answers.proofs.Answers.{read-written-telling, written-read-telling}
-use Rattle.replay.specs.Texts.{lineFeed, lines, answerTo, lineOf, answersTo, recordAfter}
+use Rattle.lines.specs.Texts.{lineFeed, lines}
+use Rattle.replay.specs.Texts.{answerTo, lineOf, answersTo, recordAfter}
 use Rattle.promises.specs.Texts.{a-line, NoneBegins}
 use Rattle.promises.specs.Written.{Never9Written, RefusedBeforeAStart}
 use Rattle.promises.proofs.Never9.{Came, came-line, line-9, refused-line}

@@ -11,7 +11,8 @@ use Rattle.steps.specs.declared.Answer.the-variants.{Done}
 use Rattle.frames.specs.declared.ReadStep.{ReadStep}
 use Rattle.frames.specs.declared.ReadStep.the-variants as R
 use Rattle.frames.specs.Steps.{readStep, writeStep}
-use Rattle.replay.specs.Texts.{lines, answerTo, recordAfter}
+use Rattle.lines.specs.Texts.{lines}
+use Rattle.replay.specs.Texts.{answerTo, recordAfter}
 use Rattle.promises.specs.Runs.{Event, comes, overnight, happens, runTo, Onward}
 
 -- ---- what a program is given

@@ -6,7 +6,8 @@ use mathlib.Core.List.{List, [], _∷_, _++_, map}
 use Prim.Native.Nat.{ℕ, _≤_}
 use lib.ListN.{length}
 use Rattle.cluster.specs.Servers.{zeroCluster, freshCluster}
-use Rattle.replay.specs.Texts.{lines, answerTo, recordAfter}
+use Rattle.lines.specs.Texts.{lines}
+use Rattle.replay.specs.Texts.{answerTo, recordAfter}
 use Rattle.histories.specs.declared.PhoneRecord.{PhoneRecord}
 use Rattle.histories.specs.declared.Checked.the-variants.{Accepted}
 use Rattle.histories.specs.Checking.{mostRecords, checkOf}

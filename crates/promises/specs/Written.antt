@@ -17,7 +17,8 @@ use Rattle.steps.specs.declared.Refusal.{Refusal}
 use Rattle.steps.specs.declared.Refusal.the-variants.{BelowCommitPoint}
 use Rattle.answers.specs.declared.ReadAnswer.the-variants as A
 use Rattle.answers.specs.Answers.{readAnswer}
-use Rattle.replay.specs.Texts.{lineFeed, lines, answerTo, recordAfter, answers, leaves}
+use Rattle.lines.specs.Texts.{lineFeed, lines}
+use Rattle.replay.specs.Texts.{answerTo, recordAfter, answers, leaves}
 use Rattle.saved.specs.Saved.{saveOf}
 use Rattle.loads.specs.Loads.{loadOf}
 use Rattle.promises.specs.Runs.{FromFresh}

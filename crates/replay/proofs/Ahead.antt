@@ -4,7 +4,7 @@ use mathlib.Core.Bool.{Bool, true, false, cond, _&&_, true≢false}
 use mathlib.Core.List.{List, [], _∷_, _++_}
 use Prim.Native.Nat.{ℕ, zero, suc, _+_, _-_, _≤_, _<_}
 use native.Mathlib.Omega.{arith}
-use borrow.Author.Tests.{lt-ltb, le-ltb, eq-eqb, ne-eqb, eqb-true, eqb-false, ltb-true}
+use borrow.Author.Tests.{lt-ltb, le-ltb, eq-eqb, ne-eqb, eqb-true, ltb-true}
 use lib.Dec.{ltb, eqb}
 use lib.ListN.{length, getD, take, drop, length-take, length-drop}
 use lib.Seq.{take-suc, getD-drop, getD-take}
@@ -13,20 +13,24 @@ use Rattle.base.proofs.Every.{every-at}
 use Rattle.hex.specs.Digits.{digitOf, isDigit}
 use Rattle.hex.specs.Lines.{allHex, bytesOf}
 use Rattle.words.specs.Words.{framed}
-use Rattle.words.proofs.Held.{empty-stands, push-slots}
+use Rattle.lines.proofs.Held.{empty-stands}
 use Rattle.cluster.specs.declared.Cluster.{Cluster}
 use Rattle.steps.specs.declared.Outcome.{Outcome}
 use Rattle.steps.specs.declared.Step.{Step as AnyStep}
 use Rattle.frames.specs.declared.ReadStep.{ReadStep}
 use Rattle.frames.specs.declared.ReadStep.the-variants.{Step, NoFrame}
 use Rattle.frames.specs.Steps.{stepIn, readStep}
+use Rattle.replay.specs.declared.Came.{Came}
 use Rattle.replay.specs.declared.Came.the-variants.{Line, Character}
 use Rattle.replay.specs.declared.Next.{Next}
-use Rattle.replay.specs.declared.Reader.{Reader}
+use Rattle.lines.specs.declared.Reader.{Reader}
 use Rattle.replay.specs.declared.Session.{Session}
-use Rattle.replay.specs.Texts.{lineFeed, respond, answerTo, lineOf}
-use Rattle.replay.specs.Pieces.{kept, answerLine, freshReader, readerOf, begun, lineHeld, pushOf, isEmpty, cameLine, wholeLine, nextBy, nextOf, placed}
-use Rattle.replay.proofs.Whole.{StandsFor, push-holds, held-answer}
+use Rattle.lines.specs.Texts.{lineFeed, placed}
+use Rattle.replay.specs.Texts.{respond, answerTo, lineOf}
+use Rattle.lines.specs.Readers.{width, freshReader, lineHeld, isEmpty, readerAfter}
+use Rattle.replay.specs.Pieces.{stepChars, answerLine, begun, cameWhole, byteIs, wholeLine, nextBy, nextOf}
+use Rattle.lines.proofs.Readers.{StandsFor, after-feed, character-holds, slots-kept}
+use Rattle.replay.proofs.Whole.{held-answer}
 use Rattle.replay.proofs.Along.{Along, by-line, by-byte}
 
 -- ---- the whole line, a law for each way that the look at it can go
@@ -36,37 +40,37 @@ module _ (r : Reader) (text : List ℕ) (at : ℕ) where
   unfolding wholeLine
   line-begun e = rw e
 
-  pub line-cut : isEmpty r ≡ true → length text ≤ at + kept → NoFrame ≡ wholeLine r text at
+  pub line-cut : isEmpty r ≡ true → length text ≤ at + stepChars → NoFrame ≡ wholeLine r text at
   unfolding wholeLine
-  line-cut e h = rw (e, le-ltb (at + kept) (length text) h)
+  line-cut e h = rw (e, le-ltb (at + stepChars) (length text) h)
 
-  pub line-longer : isEmpty r ≡ true → at + kept < length text → (getD text (at + kept) 0 ≡ lineFeed → ⊥) → NoFrame ≡ wholeLine r text at
+  pub line-longer : isEmpty r ≡ true → at + stepChars < length text → (getD text (at + stepChars) 0 ≡ lineFeed → ⊥) → NoFrame ≡ wholeLine r text at
   unfolding wholeLine
-  line-longer e h n = rw (e, lt-ltb (at + kept) (length text) h, ne-eqb (getD text (at + kept) 0) lineFeed n)
+  line-longer e h n = rw (e, lt-ltb (at + stepChars) (length text) h, ne-eqb (getD text (at + stepChars) 0) lineFeed n)
 
-  pub line-there : isEmpty r ≡ true → at + kept < length text → getD text (at + kept) 0 ≡ lineFeed
-      → (q : ReadStep) → q ≡ readStep (take (at + kept - at) (drop at text)) → q ≡ wholeLine r text at
+  pub line-there : isEmpty r ≡ true → at + stepChars < length text → getD text (at + stepChars) 0 ≡ lineFeed
+      → (q : ReadStep) → q ≡ readStep (take (at + stepChars - at) (drop at text)) → q ≡ wholeLine r text at
   unfolding wholeLine
   line-there e h f q p =
-      let k : at + kept - at ≡ kept = omega arith in
-      rw (e, lt-ltb (at + kept) (length text) h, eq-eqb (getD text (at + kept) 0) lineFeed f) (p ∙ ap (λ (m : ℕ). readStep (take m (drop at text))) k)
+      let k : at + stepChars - at ≡ stepChars = omega arith in
+      rw (e, lt-ltb (at + stepChars) (length text) h, eq-eqb (getD text (at + stepChars) 0) lineFeed f) (p ∙ ap (λ (m : ℕ). readStep (take m (drop at text))) k)
 
 -- what it says of the text where it gives a step
 record There (r : Reader) (text : List ℕ) (at : ℕ) (s : AnyStep) : Type 0 where
   fresh : isEmpty r ≡ true
-  inside : at + kept < length text
-  feed : getD text (at + kept) 0 ≡ lineFeed
-  reads : readStep (take kept (drop at text)) ≡ Step s
+  inside : at + stepChars < length text
+  feed : getD text (at + stepChars) 0 ≡ lineFeed
+  reads : readStep (take stepChars (drop at text)) ≡ Step s
 
 whole-there : (r : Reader) (text : List ℕ) (at : ℕ) (s : AnyStep) → wholeLine r text at ≡ Step s → There r text at s
 unfolding wholeLine
-whole-there r text at s = go (isEmpty r) (ltb (at + kept) (length text)) (eqb (getD text (at + kept) 0) lineFeed) refl refl refl
+whole-there r text at s = go (isEmpty r) (ltb (at + stepChars) (length text)) (eqb (getD text (at + stepChars) 0) lineFeed) refl refl refl
   where
     no : NoFrame ≡ Step s → There r text at s
     no e = let z : _≡_ {A = ℕ} 0 1 = cc in absurd (omega arith)
 
-    go : (x y z : Bool) → isEmpty r ≡ x → ltb (at + kept) (length text) ≡ y → eqb (getD text (at + kept) 0) lineFeed ≡ z
-        → cond x (cond y (cond z (readStep (take kept (drop at text))) NoFrame) NoFrame) NoFrame ≡ Step s → There r text at s
+    go : (x y z : Bool) → isEmpty r ≡ x → ltb (at + stepChars) (length text) ≡ y → eqb (getD text (at + stepChars) 0) lineFeed ≡ z
+        → cond x (cond y (cond z (readStep (take stepChars (drop at text))) NoFrame) NoFrame) NoFrame ≡ Step s → There r text at s
     go true true true p q f e = record { fresh = p; inside = ltb-true _ _ q; feed = eqb-true _ _ f; reads = e }
     go true true false p q f e = no e
     go true false z p q f e = no e
@@ -75,52 +79,52 @@ whole-there r text at s = go (isEmpty r) (ltb (at + kept) (length text)) (eqb (g
 -- ---- what came, likewise
 
 module _ (r : Reader) (text : List ℕ) (at : ℕ) where
-  pub next-whole : (s : AnyStep) (n : Next) → wholeLine r text at ≡ Step s → n ≡ cameLine (Step s) (kept + 1) → n ≡ nextOf r text at
+  pub next-whole : (s : AnyStep) (n : Next) → wholeLine r text at ≡ Step s → n ≡ cameWhole s → n ≡ nextOf r text at
   unfolding nextBy
   next-whole s n e p = p ∙ sym (ap (λ (x : ReadStep). nextBy x r (getD text at 0)) e)
 
-  pub next-feed : (n : Next) → wholeLine r text at ≡ NoFrame → getD text at 0 ≡ lineFeed → n ≡ cameLine (readStep (lineHeld r)) 1 → n ≡ nextOf r text at
+  pub next-byte : (q : Reader) (k : Came) → wholeLine r text at ≡ NoFrame → q ≡ readerAfter r (getD text at 0) → k ≡ byteIs r (getD text at 0)
+      → _≡_ {A = Next} (record { reader = q; took = 1; came = k }) (nextOf r text at)
   unfolding nextBy
-  next-feed n e f p = rw (e, eq-eqb (getD text at 0) lineFeed f) p
-
-  pub next-character : (q : Reader) → wholeLine r text at ≡ NoFrame → (getD text at 0 ≡ lineFeed → ⊥) → q ≡ pushOf r (getD text at 0)
-      → _≡_ {A = Next} (record { reader = q; took = 1; came = Character }) (nextOf r text at)
-  unfolding nextBy
-  next-character q e f p = rw (e, ne-eqb (getD text at 0) lineFeed f) (λ i. record { reader = p i; took = 1; came = Character })
+  next-byte q k e p c = rw e (λ i. record { reader = p i; took = 1; came = c i })
 
 -- it takes at least a byte, and none past the end; the reader keeps its slots
 pub record Moved (text : List ℕ) (at : ℕ) (n : Next) : Type 0 where
   pub some : 0 < n .took
   pub inside : at + n .took ≤ length text
-  pub slots : length (n .reader .held) ≡ kept
+  pub slots : length (n .reader .held) ≡ width
 
-slots-kept : (r : Reader) (b : ℕ) → length (r .held) ≡ kept → length (pushOf r b .held) ≡ kept
-unfolding pushOf
-slots-kept r b k = push-slots kept readerOf (r .held) (r .fill) (r .over) b (λ q. length (q .held) ≡ kept) (λ held fill over q. q) k
-
-pub moved : (r : Reader) (text : List ℕ) (at : ℕ) (n : Next) → at < length text → length (r .held) ≡ kept → n ≡ nextOf r text at → Moved text at n
+pub moved : (r : Reader) (text : List ℕ) (at : ℕ) (n : Next) → at < length text → length (r .held) ≡ width → n ≡ nextOf r text at → Moved text at n
 unfolding nextBy
-moved r text at n h k e = subst (Moved text at) (sym e) (go (wholeLine r text at) (eqb (getD text at 0) lineFeed) refl)
+moved r text at n h k e = subst (Moved text at) (sym e) (go (wholeLine r text at) refl)
   where
-    by-feed : (b : Bool) → Moved text at (cond b (cameLine (readStep (lineHeld r)) 1) (record { reader = pushOf r (getD text at 0); took = 1; came = Character }))
-    by-feed true = record { some = omega arith; inside = omega arith; slots = refl }
-    by-feed false = record { some = omega arith; inside = omega arith; slots = slots-kept r (getD text at 0) k }
+    go : (x : ReadStep) → wholeLine r text at ≡ x → Moved text at (nextBy x r (getD text at 0))
+    go (Step s) y = let l = whole-there r text at s y .inside in record { some = omega arith; inside = omega arith; slots = refl }
+    go NoFrame y = record { some = omega arith; inside = omega arith; slots = slots-kept r (getD text at 0) k }
 
-    go : (x : ReadStep) (b : Bool) → wholeLine r text at ≡ x → Moved text at (nextBy x r (getD text at 0))
-    go (Step s) b y = let l = whole-there r text at s y .inside in record { some = omega arith; inside = omega arith; slots = refl }
-    go NoFrame b y = by-feed (eqb (getD text at 0) lineFeed)
+-- what a byte is, by what came
+is-line : (r : Reader) (b : ℕ) (read : ReadStep) → byteIs r b ≡ Line read → (b ≡ lineFeed) × (read ≡ readStep (lineHeld r))
+unfolding byteIs
+is-line r b read = go (eqb b lineFeed) refl
+  where
+    go : (x : Bool) → eqb b lineFeed ≡ x → cond x (Line (readStep (lineHeld r))) Character ≡ Line read → (b ≡ lineFeed) × (read ≡ readStep (lineHeld r))
+    go true e p = (eqb-true b lineFeed e, (cc))
+    go false e p = let z : _≡_ {A = ℕ} 0 1 = cc in absurd (omega arith)
+
+is-character : (r : Reader) (b : ℕ) → byteIs r b ≡ Character → b ≡ lineFeed → ⊥
+unfolding byteIs
+is-character r b p e = let q = rw (eq-eqb b lineFeed e) at p in let z : _≡_ {A = ℕ} 0 1 = cc in omega arith
 
 -- after a line the reader is fresh
 pub line-fresh : (r : Reader) (text : List ℕ) (at : ℕ) (n : Next) (read : ReadStep) → n ≡ nextOf r text at → n .came ≡ Line read → n .reader ≡ freshReader
 unfolding nextBy
-line-fresh r text at n read e k = go (wholeLine r text at) (eqb (getD text at 0) lineFeed) refl e
+line-fresh r text at n read e k = go (wholeLine r text at) e
   where
-    go : (x : ReadStep) (b : Bool) → eqb (getD text at 0) lineFeed ≡ b → n ≡ nextBy x r (getD text at 0) → n .reader ≡ freshReader
-    go (Step s) b q p = ap (λ (m : Next). m .reader) p
-    go NoFrame true q p = let u = rw q at p in ap (λ (m : Next). m .reader) u
-    go NoFrame false q p =
-        let u = rw q at p in
-        let bad : Character ≡ Line read = sym (ap (λ (m : Next). m .came) u) ∙ k in let z : _≡_ {A = ℕ} 0 1 = cc in absurd (omega arith)
+    go : (x : ReadStep) → n ≡ nextBy x r (getD text at 0) → n .reader ≡ freshReader
+    go (Step s) p = ap (λ (m : Next). m .reader) p
+    go NoFrame p =
+        let f = is-line r (getD text at 0) read (sym (ap (λ (m : Next). m .came) p) ∙ k) in
+        ap (λ (m : Next). m .reader) p ∙ after-feed r (getD text at 0) (f .0)
 
 -- ---- the bytes of a frame, one by one
 
@@ -133,11 +137,11 @@ digits line h j l f =
 
 no-feed : (line : List ℕ) (s : AnyStep) → readStep line ≡ Step s → (j : ℕ) → j < length line → getD line j 0 ≡ lineFeed → ⊥
 unfolding framed
-no-feed line s e = go (eqb (length line) kept && allHex line) refl e
+no-feed line s e = go (eqb (length line) stepChars && allHex line) refl e
   where
-    go : (b : Bool) → (eqb (length line) kept && allHex line) ≡ b → cond b (stepIn (bytesOf line)) NoFrame ≡ Step s
+    go : (b : Bool) → (eqb (length line) stepChars && allHex line) ≡ b → cond b (stepIn (bytesOf line)) NoFrame ≡ Step s
         → (j : ℕ) → j < length line → getD line j 0 ≡ lineFeed → ⊥
-    go true q h = digits line (and-right (eqb (length line) kept) (allHex line) q)
+    go true q h = digits line (and-right (eqb (length line) stepChars) (allHex line) q)
     go false q h = λ j l f. let z : _≡_ {A = ℕ} 0 1 = cc in omega arith
 
 -- where the bytes p of a line have been read, and the reader stands for them
@@ -159,17 +163,17 @@ by-bytes {s} {text} {out₀} {out} {c} {r} {w} {i} (suc k) h room none a f =
     let more : take k (drop i text) ++ (b ∷ []) ≡ take (suc k) (drop i text) =
     ap (λ (x : ℕ). take k (drop i text) ++ (x ∷ [])) (sym (getD-drop i text k 0)) ∙ sym (take-suc (drop i text) k 0 (omega (arith, length-drop i text))) in
     record {
-      reader = pushOf (u .reader) b;
-      along = subst (λ (n : ℕ). Along s text out₀ out (record { cluster = c; reader = pushOf (u .reader) b }) w n) e
-          (by-byte (pushOf (u .reader) b) (u .along) (omega arith) room (none k (omega arith)) refl);
-      stands = subst (StandsFor (pushOf (u .reader) b)) more (push-holds (u .reader) b (u .stands));
+      reader = readerAfter (u .reader) b;
+      along = subst (λ (n : ℕ). Along s text out₀ out (record { cluster = c; reader = readerAfter (u .reader) b }) w n) e
+          (by-byte (readerAfter (u .reader) b) (u .along) (omega arith) room (none k (omega arith)) refl);
+      stands = subst (StandsFor (readerAfter (u .reader) b)) more (character-holds (u .reader) b (none k (omega arith)) (u .stands));
     }
 
 -- no line feed stands among the bytes of the whole line
-plain : {r : Reader} {text : List ℕ} {i : ℕ} {s : AnyStep} → There r text i s → (j : ℕ) → j < kept → getD text (i + j) 0 ≡ lineFeed → ⊥
+plain : {r : Reader} {text : List ℕ} {i : ℕ} {s : AnyStep} → There r text i s → (j : ℕ) → j < stepChars → getD text (i + j) 0 ≡ lineFeed → ⊥
 plain {r} {text} {i} {s} there j l f =
-    no-feed (take kept (drop i text)) s (there .reads) j (omega (arith, length-take kept (drop i text), length-drop i text, there .inside))
-    (getD-take kept (drop i text) j 0 l ∙ getD-drop i text j 0 ∙ f)
+    no-feed (take stepChars (drop i text)) s (there .reads) j (omega (arith, length-take stepChars (drop i text), length-drop i text, there .inside))
+    (getD-take stepChars (drop i text) j 0 l ∙ getD-drop i text j 0 ∙ f)
 
 -- the line feed after the bytes p
 at-feed : {s : Session} {text out₀ out : List ℕ} {c : Cluster} {p : List ℕ} {w i : ℕ} (u : Reading s text out₀ out c p w i) (o : Outcome) (e : Session) (out′ : List ℕ)
@@ -181,48 +185,39 @@ at-feed {c = c} u o e out′ h room f q b o′ = by-line e o out′ (u .along) h
 -- ---- the loop, a turn further
 
 module _ {s : Session} {text out₀ out : List ℕ} {c : Cluster} {r : Reader} {w i : ℕ} (a : Along s text out₀ out (record { cluster = c; reader = r }) w i)
-    (slots : length (r .held) ≡ kept) (h : i < length text) (room : answerLine ≤ length out₀ - w) where
+    (slots : length (r .held) ≡ width) (h : i < length text) (room : answerLine ≤ length out₀ - w) where
   -- a whole line
   whole-line : (t : AnyStep) (o : Outcome) (e : Session) (out′ : List ℕ) → There r text i t → o ≡ respond c (Step t) → e ≡ begun (o .cluster)
-      → out′ ≡ placed out w (lineOf (o .answer)) → Along s text out₀ out′ e (w + answerLine) (i + (kept + 1))
+      → out′ ≡ placed out w (lineOf (o .answer)) → Along s text out₀ out′ e (w + answerLine) (i + (stepChars + 1))
   whole-line t o e out′ there p b o′ =
-      let n : i + kept + 1 ≡ i + (kept + 1) = omega arith in
+      let n : i + stepChars + 1 ≡ i + (stepChars + 1) = omega arith in
       subst (λ (m : ℕ). Along s text out₀ out′ e (w + answerLine) m) n
-      (at-feed (by-bytes kept (omega (arith, there .inside)) room (plain there) a (empty-stands (there .fresh) slots)) o e out′ (there .inside) room (there .feed)
+      (at-feed (by-bytes stepChars (omega (arith, there .inside)) room (plain there) a (empty-stands (there .fresh) slots)) o e out′ (there .inside) room (there .feed)
       (p ∙ ap (respond c) (sym (there .reads))) b o′)
 
   -- a character
   pub by-character : (n : Next) → n ≡ nextOf r text i → n .came ≡ Character → Along s text out₀ out (record { cluster = c; reader = n .reader }) w (i + n .took)
   unfolding nextBy
-  by-character n e k = go (wholeLine r text i) (eqb (getD text i 0) lineFeed) refl e
+  by-character n e k = go (wholeLine r text i) e
     where
-      go : (x : ReadStep) (b : Bool) → eqb (getD text i 0) lineFeed ≡ b → n ≡ nextBy x r (getD text i 0) → Along s text out₀ out (record { cluster = c; reader = n .reader }) w (i + n .took)
-      go (Step t) b q p = let z : Line (Step t) ≡ Character = sym (ap (λ (m : Next). m .came) p) ∙ k in let y : _≡_ {A = ℕ} 0 1 = cc in absurd (omega arith)
-      go NoFrame true q p =
-          let v = rw q at p in
-          let z : Line (readStep (lineHeld r)) ≡ Character = sym (ap (λ (m : Next). m .came) v) ∙ k in let y : _≡_ {A = ℕ} 0 1 = cc in absurd (omega arith)
-      go NoFrame false q p =
-          let v = rw q at p in
-          subst (λ (m : Next). Along s text out₀ out (record { cluster = c; reader = m .reader }) w (i + m .took)) (sym v)
-          (by-byte (pushOf r (getD text i 0)) a h room (eqb-false _ lineFeed q) refl)
+      go : (x : ReadStep) → n ≡ nextBy x r (getD text i 0) → Along s text out₀ out (record { cluster = c; reader = n .reader }) w (i + n .took)
+      go (Step t) p = let z : Line (Step t) ≡ Character = sym (ap (λ (m : Next). m .came) p) ∙ k in let y : _≡_ {A = ℕ} 0 1 = cc in absurd (omega arith)
+      go NoFrame p =
+          subst (λ (m : Next). Along s text out₀ out (record { cluster = c; reader = m .reader }) w (i + m .took)) (sym p)
+          (by-byte (readerAfter r (getD text i 0)) a h room (is-character r (getD text i 0) (sym (ap (λ (m : Next). m .came) p) ∙ k)) refl)
 
   -- a line, whole or at its line feed
   pub by-came : (n : Next) (read : ReadStep) (o : Outcome) (e : Session) (out′ : List ℕ) → n ≡ nextOf r text i → n .came ≡ Line read → o ≡ respond c read
       → e ≡ begun (o .cluster) → out′ ≡ placed out w (lineOf (o .answer)) → Along s text out₀ out′ e (w + answerLine) (i + n .took)
   unfolding nextBy answerTo wholeLine
-  by-came n read o e out′ p k q b o′ = go (wholeLine r text i) (eqb (getD text i 0) lineFeed) refl refl p
+  by-came n read o e out′ p k q b o′ = go (wholeLine r text i) refl p
     where
-      go : (x : ReadStep) (f : Bool) → wholeLine r text i ≡ x → eqb (getD text i 0) lineFeed ≡ f → n ≡ nextBy x r (getD text i 0)
-          → Along s text out₀ out′ e (w + answerLine) (i + n .took)
-      go (Step t) f y z v =
+      go : (x : ReadStep) → wholeLine r text i ≡ x → n ≡ nextBy x r (getD text i 0) → Along s text out₀ out′ e (w + answerLine) (i + n .took)
+      go (Step t) y v =
           let same : Line (Step t) ≡ Line read = sym (ap (λ (m : Next). m .came) v) ∙ k in
           subst (λ (m : Next). Along s text out₀ out′ e (w + answerLine) (i + m .took)) (sym v)
           (whole-line t o e out′ (whole-there r text i t y) (let j : read ≡ Step t = cc in q ∙ ap (respond c) j) b o′)
-      go NoFrame true y z v =
-          let u = rw z at v in
-          let same : Line (readStep (lineHeld r)) ≡ Line read = sym (ap (λ (m : Next). m .came) u) ∙ k in
-          subst (λ (m : Next). Along s text out₀ out′ e (w + answerLine) (i + m .took)) (sym u)
-          (by-line e o out′ a h room (eqb-true _ lineFeed z) (let j : read ≡ readStep (lineHeld r) = cc in q ∙ ap (respond c) j) b o′)
-      go NoFrame false y z v =
-          let u = rw z at v in
-          let bad : Character ≡ Line read = sym (ap (λ (m : Next). m .came) u) ∙ k in let x : _≡_ {A = ℕ} 0 1 = cc in absurd (omega arith)
+      go NoFrame y v =
+          let f = is-line r (getD text i 0) read (sym (ap (λ (m : Next). m .came) v) ∙ k) in
+          subst (λ (m : Next). Along s text out₀ out′ e (w + answerLine) (i + m .took)) (sym v)
+          (by-line e o out′ a h room (f .0) (q ∙ ap (respond c) (f .1)) b o′)

@@ -12,11 +12,14 @@ use Rattle.replay.specs.declared.Session.{Session}
 use Rattle.replay.specs.declared.Fed.{Fed}
 use Rattle.cluster.specs.declared.Cluster.{Cluster}
 use Rattle.steps.specs.declared.Outcome.{Outcome}
-use Rattle.replay.specs.declared.Reader.{Reader}
-use Rattle.replay.specs.Texts.{lineFeed, answerTo, lineOf}
-use Rattle.replay.proofs.Placed.{placed-none, placed-length, placed-more}
+use Rattle.lines.specs.declared.Reader.{Reader}
+use Rattle.lines.specs.Texts.{lineFeed, placed}
+use Rattle.replay.specs.Texts.{answerTo, lineOf}
+use Rattle.lines.proofs.Placed.{placed-none, placed-length, placed-more}
 use Rattle.replay.proofs.Whole.{runs-append, says-append, line-long}
-use Rattle.replay.specs.Pieces.{answerLine, placed, after, said, runs, says, taking, fedOf, fedOut, lineHeld, begun, pushOf}
+use Rattle.lines.specs.Readers.{lineHeld, readerAfter}
+use Rattle.lines.specs.Folds.{byteAfter}
+use Rattle.replay.specs.Pieces.{answerLine, after, said, runs, says, taking, fedOf, fedOut, begun}
 
 pub record Along (s : Session) (text out₀ : List ℕ) (out : List ℕ) (d : Session) (w i : ℕ) : Type 0 where
   pub at : i ≤ length text
@@ -86,7 +89,7 @@ parts p q = cc
 pub by-line : {s : Session} {text out₀ out : List ℕ} {d : Session} {w i : ℕ} (e : Session) (r : Outcome) (out′ : List ℕ) → Along s text out₀ out d w i
     → i < length text → answerLine ≤ length out₀ - w → getD text i 0 ≡ lineFeed → r ≡ answerTo (d .cluster) (lineHeld (d .reader)) → e ≡ begun (r .cluster)
     → out′ ≡ placed out w (lineOf (r .answer)) → Along s text out₀ out′ e (w + answerLine) (i + 1)
-unfolding after said
+unfolding after said byteAfter readerAfter
 by-line {s} {text} {out₀} {out} {d} {w} {i} e r out′ a h room b p q o =
     subst (λ (k : ℕ). Along s text out₀ out′ e (w + k) (i + 1)) (line-long (r .answer))
     (more e (lineOf (r .answer)) out′ a h room
@@ -96,9 +99,9 @@ by-line {s} {text} {out₀} {out} {d} {w} {i} e r out′ a h room b p q o =
 
 -- any other byte
 pub by-byte : {s : Session} {text out₀ out : List ℕ} {d : Session} {w i : ℕ} (l : Reader) → Along s text out₀ out d w i
-    → i < length text → answerLine ≤ length out₀ - w → (getD text i 0 ≡ lineFeed → ⊥) → l ≡ pushOf (d .reader) (getD text i 0)
+    → i < length text → answerLine ≤ length out₀ - w → (getD text i 0 ≡ lineFeed → ⊥) → l ≡ readerAfter (d .reader) (getD text i 0)
     → Along s text out₀ out (record { cluster = d .cluster; reader = l }) w (i + 1)
-unfolding after said
+unfolding after said byteAfter
 by-byte {s} {text} {out₀} {out} {d} {w} {i} l a h room b p =
     let z : w + 0 ≡ w = omega arith in
     subst (λ (k : ℕ). Along s text out₀ out (record { cluster = d .cluster; reader = l }) k (i + 1)) z

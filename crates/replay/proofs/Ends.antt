@@ -10,7 +10,10 @@ use Rattle.steps.specs.declared.Outcome.{Outcome}
 use Rattle.replay.specs.declared.Session.{Session}
 use Rattle.replay.specs.declared.Finished.{Finished}
 use Rattle.replay.specs.Texts.{answerTo, lineOf}
-use Rattle.replay.specs.Pieces.{answerLine, placed, begun, isEmpty, lineHeld, ending, ended, finishOf, finishOut}
+use Rattle.lines.specs.Texts.{placed}
+use Rattle.lines.specs.Readers.{isEmpty, lineHeld}
+use Rattle.lines.specs.Folds.{atEnd}
+use Rattle.replay.specs.Pieces.{answerLine, begun, ending, ended, finishOf, finishOut}
 
 -- the result and the buffer, together
 abbrev Ends : Session → Finished → List ℕ → List ℕ → Type 0
@@ -33,7 +36,7 @@ ends-tight s out e h = (rw (e, lt-ltb (length out) answerLine h), rw (lt-ltb (le
 pub ends-answered : (s d : Session) (out out′ : List ℕ) (o : Outcome) → isEmpty (s .reader) ≡ false → answerLine ≤ length out
     → o ≡ answerTo (s .cluster) (lineHeld (s .reader)) → d ≡ begun (o .cluster) → out′ ≡ placed out 0 (lineOf (o .answer))
     → Ends s (record { session = d; wrote = answerLine; ended = true }) out out′
-unfolding finishOf finishOut ending ended
+unfolding finishOf finishOut ending atEnd
 ends-answered s d out out′ o e h p q r = (
   rw (e, le-ltb (length out) answerLine h) (λ i. record { session = (q ∙ ap (λ (x : Outcome). begun (x .cluster)) p) i; wrote = answerLine; ended = true }),
   rw (le-ltb (length out) answerLine h, e) (r ∙ ap (λ (x : Outcome). placed out 0 (lineOf (x .answer))) p),

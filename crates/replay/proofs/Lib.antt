@@ -1,12 +1,11 @@
 -- Laws over what the functions promise: however a text is cut, its answers and the record are those of the whole. Assumes nothing.
-pub mod Lines
 pub mod Whole
-pub mod Placed
+pub mod Shown
 pub mod Parts
 pub mod Along
 pub mod Ahead
 pub mod Planned
 pub mod Ends
 pub mod Refused
-pub mod Folded
+pub mod Lent
 pub mod Results

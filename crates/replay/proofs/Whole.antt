@@ -11,33 +11,26 @@ use Rattle.steps.specs.declared.Answer.{Answer}
 use Rattle.steps.specs.declared.Outcome.{Outcome}
 use Rattle.steps.specs.Answers.{tellingOf}
 use Rattle.answers.specs.Answers.{writeAnswer}
-use Rattle.words.proofs.Held as Held
-use Rattle.words.proofs.Held.{empty-stands, held-empty, held-some, held-framed}
+use Rattle.lines.proofs.Held.{held-empty, held-some, held-framed}
 use Rattle.frames.specs.declared.ReadStep.the-variants.{NoFrame}
 use Rattle.frames.specs.Layout.{stepBytes}
 use Rattle.frames.specs.Steps.{stepIn}
 use Rattle.answers.proofs.Lengths.{answer-line-length}
 use Rattle.cluster.specs.declared.Cluster.{Cluster}
-use Rattle.replay.specs.declared.Reader.{Reader}
+use Rattle.lines.specs.declared.Reader.{Reader}
 use Rattle.replay.specs.declared.Session.{Session}
-use Rattle.replay.specs.Texts.{lineFeed, lines, respond, answerTo, lineOf, answersTo, recordAfter, answers, leaves}
-use Rattle.replay.specs.Pieces.{kept, answerLine, freshReader, readerOf, begun, lineHeld, pushOf, after, said, runs, says, ending, ended, together, runsAll, saysAll}
-use Rattle.replay.proofs.Lines.{Plain, none, more, plain-snoc, line-first, line-last}
-
--- a reader stands for the bytes p that it was given since the last line feed
-abbrev pub StandsFor : Reader → List ℕ → Type 0
-StandsFor r p = Held.StandsFor kept (r .held) (r .fill) (r .over) p
-
-pub fresh-holds : StandsFor freshReader []
-fresh-holds = empty-stands refl refl
-
-pub push-holds : (r : Reader) {p : List ℕ} (b : ℕ) → StandsFor r p → StandsFor (pushOf r b) (p ++ (b ∷ []))
-unfolding pushOf
-push-holds r {p} b h = Held.push-holds readerOf (λ q. StandsFor q (p ++ (b ∷ []))) b (λ held fill over q. q) h
+use Rattle.lines.specs.Texts.{lineFeed, lines, together}
+use Rattle.replay.specs.Texts.{respond, answerTo, lineOf, answersTo, recordAfter, answers, leaves}
+use Rattle.lines.specs.Readers.{width, freshReader, lineHeld, pushOf, readerAfter, readerOver}
+use Rattle.lines.specs.Folds.{overLines, byteAfter, overBytes}
+use Rattle.replay.specs.Pieces.{answerLine, begun, lineAfter, after, said, runs, says, ending, ended, runsAll, saysAll}
+use Rattle.lines.proofs.Lines.{Plain, none, more, plain-snoc, line-first, line-last}
+use Rattle.lines.proofs.Readers.{StandsFor, fresh-holds, push-holds}
+use Rattle.lines.proofs.Folded.{folded}
 
 pub held-answer : (s : Cluster) (r : Reader) {p : List ℕ} → StandsFor r p → answerTo s (lineHeld r) ≡ answerTo s p
 unfolding answerTo lineHeld
-held-answer s r h = ap (respond s) (held-framed stepBytes stepIn NoFrame kept (omega arith) (r .held) (r .fill) (r .over) h)
+held-answer s r h = ap (respond s) (held-framed stepBytes stepIn NoFrame width (omega arith) (r .held) (r .fill) (r .over) h)
 
 -- from any point of a line
 abbrev Right : List ℕ → Type 0
@@ -46,7 +39,7 @@ Right text =
     → says (record { cluster = s; reader = r }) text ++ ending (runs (record { cluster = s; reader = r }) text) ≡ answersTo s (lines (p ++ text))
 
 from : (text : List ℕ) → Right text
-unfolding ending after said
+unfolding ending after said byteAfter readerAfter
 from [] s r [] q h = simp (held-empty h)
 from [] s r (b ∷ p) (more e q) h =
     simp (held-some h)
@@ -54,22 +47,20 @@ from [] s r (b ∷ p) (more e q) h =
     ∙ sym (ap (answersTo s) (ap (λ (l : List ℕ). lines (b ∷ l)) (append-nil p) ∙ line-last b p e q)))
 from (b ∷ text) s r p q h = go (from text) (eqb b lineFeed) refl
   where
-    d : Session
-    d = record { cluster = s; reader = r }
-
     a : Outcome
     a = answerTo s (lineHeld r)
 
-    go : Right text → (x : Bool) → eqb b lineFeed ≡ x
-        → cond x (lineOf (a .answer)) [] ++ says (cond x (begun (a .cluster)) (record { cluster = s; reader = pushOf r b })) text
-        ++ ending (runs (cond x (begun (a .cluster)) (record { cluster = s; reader = pushOf r b })) text) ≡ answersTo s (lines (p ++ (b ∷ text)))
-    go next true e =
+    next : Bool → Session
+    next x = record { cluster = cond x (a .cluster) s; reader = cond x freshReader (pushOf r b) }
+
+    go : Right text → (x : Bool) → eqb b lineFeed ≡ x → cond x (lineOf (a .answer)) [] ++ says (next x) text ++ ending (runs (next x) text) ≡ answersTo s (lines (p ++ (b ∷ text)))
+    go right true e =
         append-assoc (lineOf (a .answer)) (says (begun (a .cluster)) text) (ending (runs (begun (a .cluster)) text))
-        ∙ ap (λ (l : List ℕ). lineOf (a .answer) ++ l) (next (a .cluster) freshReader [] none fresh-holds)
+        ∙ ap (λ (l : List ℕ). lineOf (a .answer) ++ l) (right (a .cluster) freshReader [] none fresh-holds)
         ∙ ap (λ (x : Outcome). lineOf (x .answer) ++ answersTo (x .cluster) (lines text)) (held-answer s r h)
         ∙ sym (ap (answersTo s) (ap (λ (k : ℕ). lines (p ++ (k ∷ text))) (eqb-true b lineFeed e) ∙ line-first text q))
-    go next false e =
-        next s (pushOf r b) (p ++ (b ∷ [])) (plain-snoc b q e) (push-holds r b h)
+    go right false e =
+        right s (pushOf r b) (p ++ (b ∷ [])) (plain-snoc b q e) (push-holds r b h)
         ∙ ap (λ (l : List ℕ). answersTo s (lines l)) (append-assoc p (b ∷ []) text)
 
 -- THE THEOREM: byte by byte, what is said, with the end, is the answers to the text
@@ -115,34 +106,20 @@ said-short s b = go (eqb b lineFeed)
 
 -- ---- the record
 
--- from any point of a line
-abbrev Leaves : List ℕ → Type 0
-Leaves text =
-    (s : Cluster) (r : Reader) (p : List ℕ) → Plain p → StandsFor r p → ended (runs (record { cluster = s; reader = r }) text) ≡ recordAfter s (lines (p ++ text))
+-- the session goes along the bytes as the record and the reader do
+runs-is : (s : Session) (text : List ℕ) → runs s text ≡ record { cluster = overBytes lineAfter (s .cluster) (s .reader) text; reader = readerOver (s .reader) text }
+unfolding after
+runs-is s [] = refl
+runs-is s (b ∷ text) = runs-is (after s b) text
 
-left : (text : List ℕ) → Leaves text
-unfolding ended after
-left [] s r [] q h = simp (held-empty h)
-left [] s r (b ∷ p) (more e q) h =
-    simp (held-some h)
-    (ap (λ (x : Outcome). x .cluster) (held-answer s r h) ∙ sym (ap (recordAfter s) (ap (λ (l : List ℕ). lines (b ∷ l)) (append-nil p) ∙ line-last b p e q)))
-left (b ∷ text) s r p q h = go (left text) (eqb b lineFeed) refl
-  where
-    a : Outcome
-    a = answerTo s (lineHeld r)
-
-    go : Leaves text → (x : Bool) → eqb b lineFeed ≡ x
-        → ended (runs (cond x (begun (a .cluster)) (record { cluster = s; reader = pushOf r b })) text) ≡ recordAfter s (lines (p ++ (b ∷ text)))
-    go next true e =
-        next (a .cluster) freshReader [] none fresh-holds ∙ ap (λ (x : Outcome). recordAfter (x .cluster) (lines text)) (held-answer s r h)
-        ∙ sym (ap (recordAfter s) (ap (λ (k : ℕ). lines (p ++ (k ∷ text))) (eqb-true b lineFeed e) ∙ line-first text q))
-    go next false e =
-        next s (pushOf r b) (p ++ (b ∷ [])) (plain-snoc b q e) (push-holds r b h)
-        ∙ ap (λ (l : List ℕ). recordAfter s (lines l)) (append-assoc p (b ∷ []) text)
+record-is : (s : Cluster) (ls : List (List ℕ)) → overLines lineAfter s ls ≡ recordAfter s ls
+record-is s [] = refl
+record-is s (l ∷ ls) = record-is (lineAfter s l) ls
 
 -- byte by byte, the record with the end is the one that the text leaves
 pub whole-record : (s : Cluster) (text : List ℕ) → ended (runs (begun s) text) ≡ leaves s text
-whole-record s text = left text s freshReader [] none fresh-holds
+whole-record s text =
+    ap ended (runs-is (begun s) text) ∙ folded lineAfter (λ c r p h. ap (λ (x : Outcome). x .cluster) (held-answer c r h)) s text ∙ record-is s (lines text)
 
 -- for any pieces
 pub any-pieces-record : (s : Cluster) (xs : List (List ℕ)) → ended (runsAll (begun s) xs) ≡ leaves s (together xs)

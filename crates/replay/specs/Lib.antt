@@ -1,5 +1,5 @@
--- A text's lines and their answers, and how they are read byte by byte. Assumes nothing.
+-- The answers to a text's lines, and the same byte by byte. Assumes nothing.
 pub mod Texts
 pub mod Pieces
+pub mod Lent
 pub mod Plans
-pub mod Folds

@@ -4,74 +4,65 @@ use Prim.Native.Nat.{ℕ, suc, _+_, _-_, _*_}
 use mathlib.Core.Bool.{Bool, true, false, cond}
 use mathlib.Core.List.{List, [], _∷_, _++_}
 use lib.Dec.{ltb, eqb}
-use lib.ListN.{length, getD, take, drop, replicate}
+use lib.ListN.{length, getD, take, drop}
 use Rattle.cluster.specs.declared.Cluster.{Cluster}
 use Rattle.frames.specs.Layout.{stepBytes}
 use Rattle.answers.specs.Answers.{answerBytes}
 use Rattle.hex.specs.Lines.{chars}
-use Rattle.words.specs.Held.{heldLine, pushed, nothingHeld}
 use Rattle.frames.specs.declared.ReadStep.{ReadStep}
 use Rattle.frames.specs.declared.ReadStep.the-variants.{Step, NoFrame}
 use Rattle.frames.specs.Steps.{readStep}
+use Rattle.steps.specs.declared.Step.{Step as AnyStep}
+use Rattle.replay.specs.declared.Came.{Came}
 use Rattle.replay.specs.declared.Came.the-variants.{Line, Character}
 use Rattle.replay.specs.declared.Next.{Next}
-use Rattle.replay.specs.declared.Reader.{Reader}
+use Rattle.lines.specs.declared.Reader.{Reader}
 use Rattle.replay.specs.declared.Session.{Session}
 use Rattle.replay.specs.declared.Fed.{Fed}
 use Rattle.replay.specs.declared.Finished.{Finished}
-use Rattle.replay.specs.Texts.{lineFeed, answerTo, lineOf}
+use Rattle.lines.specs.Texts.{lineFeed, placed}
+use Rattle.lines.specs.Readers.{freshReader, lineHeld, isEmpty, readerAfter}
+use Rattle.lines.specs.Folds.{byteAfter, atEnd}
+use Rattle.replay.specs.Texts.{answerTo, lineOf}
 
 -- the characters of a step frame, and the length of an answer line
-abbrev pub kept : ℕ
-kept = chars * stepBytes
+abbrev pub stepChars : ℕ
+stepChars = chars * stepBytes
 
 abbrev pub answerLine : ℕ
 answerLine = chars * answerBytes + 1
-
-abbrev pub freshReader : Reader
-freshReader = record { held = replicate kept 0; fill = 0; over = false }
 
 -- the record with a reader that has read nothing of a line
 abbrev pub begun : Cluster → Session
 begun c = record { cluster = c; reader = freshReader }
 
--- the line that a reader stands for
-unfoldable pub lineHeld : Reader → List ℕ
-lineHeld r = heldLine kept (r .held) (r .fill) (r .over)
-
-abbrev pub readerOf : List ℕ → ℕ → Bool → Reader
-readerOf held fill over = record { held = held; fill = fill; over = over }
-
--- one character more; past a frame's length only that there were more is remembered
-unfoldable pub pushOf : Reader → ℕ → Reader
-pushOf r b = pushed kept readerOf (r .held) (r .fill) (r .over) b
-
--- nothing of a line was read
-abbrev pub isEmpty : Reader → Bool
-isEmpty r = nothingHeld (r .fill) (r .over)
-
--- a line came, which reads so
-abbrev pub cameLine : ReadStep → ℕ → Next
-cameLine read took = record { reader = freshReader; took = took; came = Line read }
-
 -- the step of the line that a text has from a place on, where the reader is fresh, it has a frame's length and a line feed ends it
 unfoldable pub wholeLine : Reader → List ℕ → ℕ → ReadStep
 wholeLine r text at =
-    cond (isEmpty r) (cond (ltb (at + kept) (length text)) (cond (eqb (getD text (at + kept) 0) lineFeed) (readStep (take kept (drop at text))) NoFrame) NoFrame) NoFrame
+    cond (isEmpty r) (cond (ltb (at + stepChars) (length text)) (cond (eqb (getD text (at + stepChars) 0) lineFeed) (readStep (take stepChars (drop at text))) NoFrame) NoFrame) NoFrame
+
+-- a whole step line came; or what one byte is: the end of the line that was read, or a character of it
+abbrev pub cameWhole : AnyStep → Next
+cameWhole s = record { reader = freshReader; took = stepChars + 1; came = Line (Step s) }
+
+unfoldable pub byteIs : Reader → ℕ → Came
+byteIs r b = cond (eqb b lineFeed) (Line (readStep (lineHeld r))) Character
 
 -- what a text has next from a place on: a whole step line, or else one byte
 unfoldable pub nextBy : ReadStep → Reader → ℕ → Next
-nextBy (Step s) r b = cameLine (Step s) (kept + 1)
-nextBy NoFrame r b = cond (eqb b lineFeed) (cameLine (readStep (lineHeld r)) 1) (record { reader = pushOf r b; took = 1; came = Character })
+nextBy (Step s) r b = cameWhole s
+nextBy NoFrame r b = record { reader = readerAfter r b; took = 1; came = byteIs r b }
 
 abbrev pub nextOf : Reader → List ℕ → ℕ → Next
 nextOf r text at = nextBy (wholeLine r text at) r (getD text at 0)
 
+-- the record after a line
+abbrev pub lineAfter : Cluster → List ℕ → Cluster
+lineAfter c line = answerTo c line .cluster
+
 -- after one byte: the session, and what is said
 unfoldable pub after : Session → ℕ → Session
-after s b =
-    cond (eqb b lineFeed) (begun (answerTo (s .cluster) (lineHeld (s .reader)) .cluster))
-    (record { cluster = s .cluster; reader = pushOf (s .reader) b })
+after s b = record { cluster = byteAfter lineAfter (s .cluster) (s .reader) b; reader = readerAfter (s .reader) b }
 
 unfoldable pub said : Session → ℕ → List ℕ
 said s b = cond (eqb b lineFeed) (lineOf (answerTo (s .cluster) (lineHeld (s .reader)) .answer)) []
@@ -84,11 +75,7 @@ abbrev pub says : Session → List ℕ → List ℕ
 says s [] = []
 says s (b ∷ bs) = said s b ++ says (after s b) bs
 
--- pieces in turn, and the text that they are
-abbrev pub together : List (List ℕ) → List ℕ
-together [] = []
-together (x ∷ xs) = x ++ together xs
-
+-- pieces in turn
 abbrev pub runsAll : Session → List (List ℕ) → Session
 runsAll s [] = s
 runsAll s (x ∷ xs) = runsAll (runs s x) xs
@@ -110,10 +97,6 @@ fedOf s text room =
       wrote = length (says s (take (taking s text room) text));
     }
 
--- a list with another put in at a place
-abbrev pub placed : List ℕ → ℕ → List ℕ → List ℕ
-placed out at xs = take at out ++ xs ++ drop (at + length xs) out
-
 -- what was said, and the rest of the buffer as it was
 unfoldable pub fedOut : Session → List ℕ → List ℕ → List ℕ
 fedOut s text out = placed out 0 (says s (take (taking s text (length out)) text))
@@ -122,8 +105,8 @@ fedOut s text out = placed out 0 (says s (take (taking s text (length out)) text
 unfoldable pub ending : Session → List ℕ
 ending s = cond (isEmpty (s .reader)) [] (lineOf (answerTo (s .cluster) (lineHeld (s .reader)) .answer))
 
-unfoldable pub ended : Session → Cluster
-ended s = cond (isEmpty (s .reader)) (s .cluster) (answerTo (s .cluster) (lineHeld (s .reader)) .cluster)
+abbrev pub ended : Session → Cluster
+ended s = atEnd lineAfter (s .cluster) (s .reader)
 
 -- where there is no room for the answer, nothing is done
 unfoldable pub finishOf : Session → ℕ → Finished

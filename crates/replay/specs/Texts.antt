@@ -1,8 +1,6 @@
--- A text, its lines and their answers, with nothing about how it arrives. Assumes nothing.
+-- The answers to a text's lines, with nothing about how it arrives. Assumes nothing.
 use Prim.Native.Nat.{ℕ}
-use mathlib.Core.Bool.{Bool, true, false}
 use mathlib.Core.List.{List, [], _∷_, _++_}
-use lib.Dec.{eqb}
 use Rattle.cluster.specs.declared.Cluster.{Cluster}
 use Rattle.steps.specs.declared.Answer.{Answer}
 use Rattle.steps.specs.declared.Outcome.{Outcome}
@@ -12,20 +10,8 @@ use Rattle.rules.specs.Rules.{stepOf}
 use Rattle.frames.specs.declared.ReadStep.{ReadStep}
 use Rattle.frames.specs.declared.ReadStep.the-variants.{Step, NoFrame}
 use Rattle.frames.specs.Steps.{readStep}
+use Rattle.lines.specs.Texts.{lineFeed, lines}
 use Rattle.answers.specs.Answers.{writeAnswer}
-
-abbrev pub lineFeed : ℕ
-lineFeed = 10
-
--- a line is what stands before a line feed; a last line without one counts if it isn't empty
-abbrev pub onLine : Bool → ℕ → List (List ℕ) → List (List ℕ)
-onLine true b ls = [] ∷ ls
-onLine false b [] = (b ∷ []) ∷ []
-onLine false b (l ∷ ls) = (b ∷ l) ∷ ls
-
-abbrev pub lines : List ℕ → List (List ℕ)
-lines [] = []
-lines (b ∷ bs) = onLine (eqb b lineFeed) b (lines bs)
 
 -- what a line gives: its step, or refusal 1
 unfoldable pub respond : Cluster → ReadStep → Outcome

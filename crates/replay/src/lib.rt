@@ -4,26 +4,21 @@ ghost use Prim.Native.Nat.{_≤_, _<_, _+_};
 ghost use lib.ListN.{length};
 ghost use Rattle.frames.specs.Steps.{readStep};
 ghost use Rattle.replay.specs.Texts.{respond, lineOf};
-ghost use Rattle.replay.specs.Pieces.{answerLine, freshReader, begun, lineHeld, pushOf, cameLine, wholeLine, nextOf, placed, isEmpty, fedOf, fedOut, finishOf, finishOut};
+ghost use Rattle.lines.specs.Readers.{freshReader, lineHeld, pushOf, isEmpty};
+ghost use Rattle.lines.specs.Texts.{placed};
+ghost use Rattle.replay.specs.Pieces.{answerLine, begun, cameWhole, byteIs, wholeLine, nextOf, fedOf, fedOut, finishOf, finishOut};
 ghost use Rattle.replay.specs.Plans.{planAlone, planApart, placeOf, planOf};
 use cluster::Cluster;
 use frames::ReadStep;
+use lines::LINE_FEED;
+use lines::Reader;
 use steps::Answer;
 use steps::Outcome;
 use steps::Refusal;
 use steps::Step;
 
-pub const LINE_FEED: u8 = 10;
-
 // How many bytes an answer line has.
 pub const ANSWER_LINE: usize = answers::ANSWER_CHARS + 1;
-
-// The line that is being read: at most a frame's characters, how many there are, and whether there were more.
-pub struct Reader {
-    pub held: [u8; frames::STEP_CHARS],
-    pub fill: usize,
-    pub over: bool,
-}
 
 // The record, and the line that is being read.
 pub struct Session {
@@ -63,41 +58,15 @@ pub enum Plan {
     Record(Step),
 }
 
-// A reader that has read nothing of a line.
-pub fn fresh_reader() -> Reader
-    ensures { λ r. ⌜ r ≡ freshReader ⌝ }
-{
-    Reader {
-        held: [0; frames::STEP_CHARS],
-        fill: 0,
-        over: false,
-    }
-}
-
 // The record with a reader that has read nothing.
 pub fn begin(c: Cluster) -> Session
     ensures { λ r. ⌜ r ≡ begun c ⌝ }
 {
-    let r = fresh_reader();
+    let r = lines::fresh_reader();
     Session {
         cluster: c,
         reader: r,
     }
-}
-
-// The reader with one character more.
-pub fn pushed(r: Reader, b: u8) -> Reader
-    ensures { λ q. ⌜ q ≡ pushOf r b ⌝ }
-{
-    let at = r.fill;
-    let mut q = r;
-    if at < frames::STEP_CHARS {
-        q.held[at] = b;
-        q.fill = at + 1;
-        return q;
-    }
-    q.over = true;
-    q
 }
 
 // The step of the line that was read.
@@ -114,25 +83,25 @@ pub fn step_held(r: Reader) -> ReadStep
     frames::read_frame(b)
 }
 
-// Whether nothing of a line was read.
-pub fn is_empty(r: Reader) -> bool
-    ensures { λ q. ⌜ q ≡ isEmpty r ⌝ }
-{
-    if r.over {
-        return false;
-    }
-    r.fill == 0
-}
-
-// A line came, so the reader is fresh again.
-fn came_line(read: ReadStep, took: usize) -> Next
-    ensures { λ q. ⌜ q ≡ cameLine read took ⌝ }
+// A whole step line came, so the reader is fresh.
+fn came_whole(s: Step) -> Next
+    ensures { λ q. ⌜ q ≡ cameWhole s ⌝ }
 {
     Next {
-        reader: fresh_reader(),
-        took: took,
-        came: Came::Line(read),
+        reader: lines::fresh_reader(),
+        took: frames::STEP_CHARS + 1,
+        came: Came::Line(ReadStep::Step(s)),
     }
+}
+
+// What a byte is: the end of the line that was read, or a character.
+fn byte_is(r: Reader, b: u8) -> Came
+    ensures { λ q. ⌜ q ≡ byteIs r b ⌝ }
+{
+    if b == LINE_FEED {
+        return Came::Line(step_held(r));
+    }
+    Came::Character
 }
 
 // The step of the whole line that the text has from a place on, where the reader is fresh and the line is a step's frame.
@@ -140,7 +109,7 @@ fn whole_line(r: Reader, text: &[u8], at: usize) -> ReadStep
     requires { ⌜ at < length (now text) ⌝ }
     ensures { λ q. ⌜ q ≡ wholeLine r (now (text .entry)) at ⌝ }
 {
-    if !is_empty(r) {
+    if !lines::is_empty(r) {
         return ReadStep::NoFrame;
     }
     if text.len() - at <= frames::STEP_CHARS {
@@ -160,16 +129,13 @@ fn take_next(r: Reader, text: &[u8], at: usize) -> Next
 {
     let whole = whole_line(r, text, at);
     if let ReadStep::Step(s) = whole {
-        return came_line(ReadStep::Step(s), frames::STEP_CHARS + 1);
+        return came_whole(s);
     }
     let b = text[at];
-    if b == LINE_FEED {
-        return came_line(step_held(r), 1);
-    }
     Next {
-        reader: pushed(r, b),
+        reader: lines::taken(r, b),
         took: 1,
-        came: Came::Character,
+        came: byte_is(r, b),
     }
 }
 
@@ -274,13 +240,14 @@ fn so_far(c: Cluster, r: Reader, taken: usize, wrote: usize) -> Fed
     }
 }
 
-// Takes bytes of the text while the buffer has room for an answer line. The record stays in a local: one server is replaced a step.
-pub fn feed(s: Session, text: &[u8], out: &mut [u8]) -> Fed
-    ensures result { λ r. ⌜ r ≡ fedOf s (now (text .entry)) (length (now (out .entry))) ⌝ }
-    ensures output { λ _. ⌜ now (out .exit) ≡ fedOut s (now (text .entry)) (now (out .entry)) ⌝ }
+// Takes bytes of the text while the buffer has room for an answer line. The record and the reader stay in locals: one server is replaced a step,
+// and the reader is lent for a byte.
+fn feed_by(from: Cluster, reader: Reader, text: &[u8], out: &mut [u8]) -> Fed
+    ensures result { λ f. ⌜ f ≡ fedOf (record { cluster = from; reader = reader }) (now (text .entry)) (length (now (out .entry))) ⌝ }
+    ensures output { λ _. ⌜ now (out .exit) ≡ fedOut (record { cluster = from; reader = reader }) (now (text .entry)) (now (out .entry)) ⌝ }
 {
-    let mut c = s.cluster;
-    let mut r = s.reader;
+    let mut c = from;
+    let mut r = reader;
     let mut w: usize = 0;
     let mut i: usize = 0;
     while i < text.len() && ANSWER_LINE <= out.len() - w {
@@ -326,13 +293,11 @@ pub fn respond_to(c: Cluster, read: ReadStep) -> Outcome
 }
 
 // The end of the text: a rest without a line feed counts if it isn't empty, and the reader is fresh again.
-pub fn finish(s: Session, out: &mut [u8]) -> Finished
-    ensures result { λ r. ⌜ r ≡ finishOf s (length (now (out .entry))) ⌝ }
-    ensures output { λ _. ⌜ now (out .exit) ≡ finishOut s (now (out .entry)) ⌝ }
+fn finish_by(c: Cluster, r: Reader, out: &mut [u8]) -> Finished
+    ensures result { λ f. ⌜ f ≡ finishOf (record { cluster = c; reader = r }) (length (now (out .entry))) ⌝ }
+    ensures output { λ _. ⌜ now (out .exit) ≡ finishOut (record { cluster = c; reader = r }) (now (out .entry)) ⌝ }
 {
-    let r = s.reader;
-    let c = s.cluster;
-    if is_empty(r) {
+    if lines::is_empty(r) {
         return Finished {
             session: begin(c),
             wrote: 0,
@@ -341,7 +306,10 @@ pub fn finish(s: Session, out: &mut [u8]) -> Finished
     }
     if out.len() < ANSWER_LINE {
         return Finished {
-            session: s,
+            session: Session {
+                cluster: c,
+                reader: r,
+            },
             wrote: 0,
             ended: false,
         };
@@ -355,4 +323,44 @@ pub fn finish(s: Session, out: &mut [u8]) -> Finished
         wrote: ANSWER_LINE,
         ended: true,
     }
+}
+
+// A piece of a text, from the record on: the caller's reader is lent, and changed in place.
+pub fn feed(c: Cluster, r: &mut Reader, text: &[u8], out: &mut [u8]) -> Fed
+    ensures result { λ f. ⌜ f ≡ fedOf (record { cluster = c; reader = now (r .entry) }) (now (text .entry)) (length (now (out .entry))) ⌝ }
+    ensures reader { λ _. ⌜ now (r .exit) ≡ fedOf (record { cluster = c; reader = now (r .entry) }) (now (text .entry)) (length (now (out .entry))) .session .reader ⌝ }
+    ensures output { λ _. ⌜ now (out .exit) ≡ fedOut (record { cluster = c; reader = now (r .entry) }) (now (text .entry)) (now (out .entry)) ⌝ }
+{
+    let f = feed_by(c, *r, text, out);
+    *r = f.session.reader;
+    f
+}
+
+// The end of a text, likewise.
+pub fn finish(c: Cluster, r: &mut Reader, out: &mut [u8]) -> Finished
+    ensures result { λ f. ⌜ f ≡ finishOf (record { cluster = c; reader = now (r .entry) }) (length (now (out .entry))) ⌝ }
+    ensures reader { λ _. ⌜ now (r .exit) ≡ finishOf (record { cluster = c; reader = now (r .entry) }) (length (now (out .entry))) .session .reader ⌝ }
+    ensures output { λ _. ⌜ now (out .exit) ≡ finishOut (record { cluster = c; reader = now (r .entry) }) (now (out .entry)) ⌝ }
+{
+    let f = finish_by(c, *r, out);
+    *r = f.session.reader;
+    f
+}
+
+// A piece for a session, whose reader is put into a local and lent: whoever calls this needs no walk by hand.
+pub fn pour(s: Session, text: &[u8], out: &mut [u8]) -> Fed
+    ensures result { λ f. ⌜ f ≡ fedOf s (now (text .entry)) (length (now (out .entry))) ⌝ }
+    ensures output { λ _. ⌜ now (out .exit) ≡ fedOut s (now (text .entry)) (now (out .entry)) ⌝ }
+{
+    let mut r = s.reader;
+    feed(s.cluster, &mut r, text, out)
+}
+
+// The end for a session, likewise.
+pub fn close(s: Session, out: &mut [u8]) -> Finished
+    ensures result { λ f. ⌜ f ≡ finishOf s (length (now (out .entry))) ⌝ }
+    ensures output { λ _. ⌜ now (out .exit) ≡ finishOut s (now (out .entry)) ⌝ }
+{
+    let mut r = s.reader;
+    finish(s.cluster, &mut r, out)
 }

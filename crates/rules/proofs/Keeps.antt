@@ -44,9 +44,10 @@ use Rattle.singles.specs.TakesReport.{takeRules, oldestOf, goesNoFurther, forwa
 use Rattle.rules.specs.Rules.{delivered, putBack, rowOf, rulesOf, doneOf, isStart, stepOf}
 use Rattle.rules.proofs.Outcomes.{step-done, StepDone, step-cases}
 use Rattle.rules.proofs.Others.{or-neither, voted-inside, voted-outside, clocked-counted, clocked-past}
-use Rattle.rules.proofs.Servers.{ServerSound, mail-set, sourced-sound, report-used, report-fits, taken-sound, pulled-some, rolled-some, down-sound, wall-sound, restarted-sound, committed-sound, voted-sound, heard-sound, pulled-sound, rolled-sound, appended-sound}
+use Rattle.rules.proofs.Servers.{mail-set, sourced-sound, report-used, report-fits, taken-sound, pulled-some, rolled-some, down-sound, wall-sound, restarted-sound, committed-sound, voted-sound, heard-sound, pulled-sound, rolled-sound, appended-sound}
 use Rattle.rules.proofs.Ranges.{fits-later}
-use Rattle.rules.proofs.Records.{Sound, counted-sound, replaced-sound, changed-sound}
+use Rattle.cluster.proofs.Sound.{ServerSound, Sound, counted-sound}
+use Rattle.rules.proofs.Records.{replaced-sound, changed-sound}
 
 -- ---- what is done keeps the record
 

@@ -1,7 +1,6 @@
 -- Laws of the step: done or refused, what it leaves alone, and what it keeps. Assumes nothing.
 pub mod Outcomes
 pub mod Others
-pub mod Lists
 pub mod Logs
 pub mod Ranges
 pub mod Appends

@@ -1,29 +1,13 @@
--- What makes a time or a log of ones that fit gives one that fits. Assumes nothing.
-use mathlib.Core.Path.{_≡_, refl, _∙_}
-use mathlib.Core.Bool.{Bool, true, false, cond}
-use mathlib.Core.Logic.{⊎-elim}
-use Prim.Native.Nat.{ℕ, zero, suc, _+_, _<_, _≤_}
+-- What makes a time of ones that fit gives one that fits. Assumes nothing.
+use mathlib.Core.Path.{_≡_}
+use Prim.Native.Nat.{ℕ, _≤_}
 use native.Mathlib.Omega.{arith}
-use lib.Dec.{ltb}
-use lib.ListN.{length, set, length-set, length-take}
-use borrow.Author.Tests.{ltb-true}
-use Rattle.base.proofs.Facts.{lt-or-le}
-use Rattle.base.proofs.Joined.{length-joined, joined-low, joined-high}
 use Rattle.clock.specs.declared.Time.{Time}
 use Rattle.clock.specs.declared.Ticked.the-variants.{To}
 use Rattle.clock.specs.Times.{limit, laterOf, tickOf}
 use Rattle.clock.specs.Ranges.{FitsTime}
 use Rattle.clock.proofs.Order.{later-either}
 use Rattle.clock.proofs.Ticks.{TickIs, grows, jumps, tick-is}
-use Rattle.log.specs.declared.Entry.{Entry}
-use Rattle.log.specs.declared.Log.{Log}
-use Rattle.log.specs.Entries.{zeroEntry, entryAt}
-use Rattle.log.specs.Logs.{logLimit, live, appended, joined}
-use Rattle.log.specs.Ranges.{FitsEntry, FitsLog}
-use Rattle.log.proofs.Live.{entryAt-zero, entryAt-past, entryAt-slot}
-use Rattle.rules.proofs.Lists.{all-set}
-
--- ---- times
 
 pub fits-later : (s t : Time) → FitsTime s → FitsTime t → FitsTime (laterOf s t)
 fits-later s t fs ft = later-either s t FitsTime fs ft
@@ -35,43 +19,3 @@ fits-tick wall t u w f e = go (tick-is wall t u e)
     go : {u : Time} → TickIs wall t u → FitsTime u
     go (grows h k) = record { p = f .p; l = omega arith }
     go (jumps h) = record { p = w; l = omega arith }
-
--- ---- logs
-
-fits-zero-entry : FitsEntry zeroEntry
-fits-zero-entry = record { term = omega arith; key = omega arith; value = omega arith; time = record { p = omega arith; l = omega arith } }
-
--- the entry at any position fits, the zero entry where there is none
-pub fits-entry : {g : Log} → FitsLog g → (n : ℕ) → FitsEntry (entryAt (live g) n)
-fits-entry {g} f zero = rw (← entryAt-zero (live g) 0 refl) fits-zero-entry
-fits-entry {g} f (suc i) = ⊎-elim here past (lt-or-le i (length (live g)))
-  where
-    past : length (live g) ≤ i → FitsEntry (entryAt (live g) (suc i))
-    past h = rw (← entryAt-past (live g) (suc i) (omega arith)) fits-zero-entry
-
-    here : i < length (live g) → FitsEntry (entryAt (live g) (suc i))
-    here h =
-        rw (entryAt-slot g i (omega (arith, length-take (g .len) (g .entries))))
-        (f .each i (omega (arith, length-take (g .len) (g .entries), f .slots)))
-
-pub fits-appended : {g : Log} {e : Entry} → FitsLog g → FitsEntry e → FitsLog (appended g e)
-unfolding appended
-fits-appended {g} {e} f new = go (ltb (g .len) logLimit) refl
-  where
-    go : (b : Bool) → ltb (g .len) logLimit ≡ b → FitsLog (cond b (record { entries = set (g .entries) (g .len) e; len = g .len + 1 }) g)
-    go true h =
-        record {
-          slots = length-set (g .entries) (g .len) e ∙ f .slots;
-          len = omega (arith, ltb-true (g .len) logLimit h);
-          each = all-set FitsEntry (g .entries) zeroEntry logLimit (omega (arith, f .slots)) (f .each) (g .len) e new;
-        }
-    go false h = f
-
-pub fits-joined : {a b : Log} (k : ℕ) → FitsLog a → FitsLog b → k ≤ logLimit → FitsLog (joined a b k)
-fits-joined {a} {b} k fa fb h =
-    record {
-      slots = length-joined k (a .entries) (b .entries) (omega (arith, fa .slots)) (omega (arith, fb .slots)) ∙ fb .slots;
-      len = fb .len;
-      each = λ i l. ⊎-elim (λ m. rw (joined-low zeroEntry k (a .entries) (b .entries) (omega (arith, fa .slots)) i m) (fa .each i l))
-          (λ m. rw (joined-high zeroEntry k (a .entries) (b .entries) (omega (arith, fa .slots)) i m) (fb .each i l)) (lt-or-le i k);
-    }

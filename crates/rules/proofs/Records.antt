@@ -13,19 +13,11 @@ use Rattle.cluster.specs.Servers.{mostServers, zeroServer, pastServer, serverAt
 use Rattle.cluster.proofs.Changed.{replaced-others, changed-at}
 use Rattle.cluster.proofs.Good.{ServerGood, Good}
 use Rattle.mail.proofs.Good.{MailGood}
-use Rattle.rules.proofs.Lists.{all-set, all-at}
+use Rattle.base.proofs.Replaced.{all-set, all-at}
 use Rattle.rules.proofs.Others.{changedBy}
-use Rattle.rules.proofs.Servers.{ServerSound}
-
--- a record that fits and is well formed
-pub record Sound (c : Cluster) : Type 0 where
-  pub fits : Fits c
-  pub good : Good c
+use Rattle.cluster.proofs.Sound.{ServerSound, Sound}
 
 module _ {c : Cluster} (h : Sound c) where
-  pub counted-sound : (i : ℕ) → i < c .count → ServerSound (c .count) i (serverAt c i)
-  counted-sound i l = record { fits = h .fits .each i (omega (arith, h .good .at-most-seven)); good = h .good .counted i l; mailed = h .good .mailed i l }
-
   pub replaced-sound : (a : ℕ) (s : Server) → a < c .count → ServerSound (c .count) a s → Sound (withServer c a s)
   replaced-sound a s l new =
       record {

@@ -29,7 +29,6 @@ use Rattle.log.proofs.Positions.{length-more, last-joined}
 use Rattle.log.proofs.Tidy.{tidy-length, tidy-appended, live-joined}
 use Rattle.cluster.specs.declared.Head.{Head}
 use Rattle.cluster.specs.declared.Server.{Server}
-use Rattle.cluster.specs.Ranges.{FitsServer}
 use Rattle.cluster.specs.Servers.{mostServers, withPrimary, withHead, withMail}
 use Rattle.mail.specs.declared.Mail.{Mail}
 use Rattle.mail.specs.Mails.{emptied, withSource}
@@ -38,7 +37,7 @@ use Rattle.mail.proofs.Good.{UsedReport, MailGood, source-of}
 use Rattle.mail.proofs.Kept.{oldest-used, zero-good, taken-good, noted-good, emptied-good, sourced-good}
 use Rattle.mail.proofs.Ranges.{fits-zero-mail, fits-report-at, fits-taken, fits-noted, fits-emptied, fits-sourced}
 use Rattle.cluster.proofs.Changed.{fits-head, fits-log, fits-mail}
-use Rattle.cluster.proofs.Good.{ServerGood}
+use Rattle.cluster.proofs.Sound.{ServerSound}
 use Rattle.steps.specs.Reasons.{Clear}
 use Rattle.steps.specs.Answers.{numberOf}
 use Rattle.steps.proofs.Numbers.{number-kept, number-fits}
@@ -53,13 +52,8 @@ use Rattle.counts.specs.Advances.{committedOf}
 use Rattle.rules.proofs.Appends.{stampFrom, ticked, stamp-after, room, live-more, applied-more}
 use Rattle.rules.proofs.Others.{officeOf, wallOf}
 use Rattle.rules.proofs.Logs.{log-raised, appended-good, joined-good}
-use Rattle.rules.proofs.Ranges.{fits-later, fits-tick, fits-entry, fits-appended, fits-joined}
-
--- as every counted server i of a well-formed record of n that fits
-pub record ServerSound (n i : ℕ) (s : Server) : Type 0 where
-  pub fits : FitsServer s
-  pub good : ServerGood s
-  pub mailed : MailGood n i (s .mail)
+use Rattle.log.proofs.Ranges.{fits-entry, fits-appended, fits-joined}
+use Rattle.rules.proofs.Ranges.{fits-later, fits-tick}
 
 -- ---- kinds that keep the log
 

@@ -37,7 +37,7 @@ use Rattle.cluster.specs.declared.Cluster.{Cluster}
 use Rattle.cluster.specs.Servers.{fewestServers, mostServers, pastServer, serverAt}
 use Rattle.cluster.specs.WellFormed.{numbersOk, countedOk, serverOk, wellFormed}
 use Rattle.cluster.specs.Ranges.{FitsServer, Fits}
-use Rattle.replay.specs.Texts.{lines}
+use Rattle.lines.specs.Texts.{lines}
 use Rattle.saved.specs.declared.Sort.the-variants as S
 use Rattle.saved.specs.Layout.{bytesOfFields, sizeOf, usedNotes, toldFields, firstFrame, serverFrame, entryFrame, noteFrame, reportFrame}
 use Rattle.saved.specs.Saved.{noteFrames, queuedReports, serverFrames, allFrames, framesOf, textOf, edition, saveOf}

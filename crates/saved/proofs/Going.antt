@@ -6,8 +6,8 @@ use native.Mathlib.Numerals.{add-one}
 use native.Mathlib.Omega.{arith}
 use lib.ListN.{length, getD, take, drop, length-append, length-take, drop-of-length-le}
 use lib.Seq.{drop-cons, getD-take}
-use Rattle.replay.specs.Pieces.{placed}
-use Rattle.replay.proofs.Placed.{placed-none, placed-length, placed-more}
+use Rattle.lines.specs.Texts.{placed}
+use Rattle.lines.proofs.Placed.{placed-none, placed-length, placed-more}
 use Rattle.saved.specs.Saved.{textOf}
 use Rattle.saved.specs.Written.{Written}
 use Rattle.saved.proofs.Texts.{text-append}

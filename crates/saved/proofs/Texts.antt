@@ -12,8 +12,8 @@ use Rattle.hex.specs.Digits.{radix, ten, char0, charA, charOf}
 use Rattle.hex.specs.Lines.{chars, bytesOf, hexOf}
 use Rattle.hex.proofs.Places.{hex-length}
 use Rattle.hex.proofs.Trips.{Bytes, bytes-hex}
-use Rattle.replay.specs.Texts.{lineFeed, lines}
-use Rattle.replay.proofs.Lines.{Plain, none, more, line-first}
+use Rattle.lines.specs.Texts.{lineFeed, lines}
+use Rattle.lines.proofs.Lines.{Plain, none, more, line-first}
 use Rattle.saved.specs.Saved.{textOf}
 
 pub text-append : (xs ys : List (List ℕ)) → textOf (xs ++ ys) ≡ textOf xs ++ textOf ys

@@ -11,7 +11,7 @@ use Rattle.mail.specs.declared.Queue.{Queue}
 use Rattle.mail.specs.Order.{isUnused}
 use Rattle.cluster.specs.declared.Server.{Server}
 use Rattle.cluster.specs.declared.Cluster.{Cluster}
-use Rattle.replay.specs.Texts.{lineFeed}
+use Rattle.lines.specs.Texts.{lineFeed}
 use Rattle.saved.specs.Layout.{firstFrame, serverFrame, entryFrame, noteFrame, reportFrame}
 
 -- used notes by server number, the first being that of server i

@@ -7,7 +7,7 @@ use lib.Dec.{eqb}
 use lib.ListN.{length, getD, replicate}
 use Rattle.hex.specs.Lines.{bytesOf}
 use Rattle.words.specs.Words.{byteAt, wordAt, framed}
-use Rattle.replay.specs.Texts.{lineFeed, lines}
+use Rattle.lines.specs.Texts.{lineFeed, lines}
 use Rattle.saved.specs.declared.Sort.{Sort}
 use Rattle.saved.specs.declared.Sort.the-variants as S
 use Rattle.saved.specs.Layout.{sortNumber, sizeOf}

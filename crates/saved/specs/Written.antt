@@ -14,7 +14,7 @@ use Rattle.cluster.specs.declared.Cluster.{Cluster}
 use Rattle.cluster.specs.Servers.{mostServers}
 use Rattle.cluster.specs.WellFormed.{wellFormed}
 use Rattle.steps.specs.declared.Refusal.the-variants.{IllFormed}
-use Rattle.replay.specs.Pieces.{placed}
+use Rattle.lines.specs.Texts.{placed}
 use Rattle.saved.specs.declared.Sort.{Sort}
 use Rattle.saved.specs.declared.Sort.the-variants as S
 use Rattle.saved.specs.declared.Saved.{Saved}

@@ -14,13 +14,13 @@ ghost use Rattle.saved.specs.Saved.{edition, noteFrames, queuedReports, 
 ghost use Rattle.saved.specs.Written.{Written, Small, longestServer, savedOf, savedOut};
 use cluster::Cluster;
 use cluster::Server;
+use lines::LINE_FEED;
 use log::Entry;
 use log::Log;
 use mail::Mail;
 use mail::Note;
 use mail::Queue;
 use mail::Report;
-use replay::LINE_FEED;
 use steps::Refusal;
 use words::high;
 use words::low;
@@ -52,6 +52,17 @@ const LONGEST_SERVER: usize = SERVER_LINE
 // The longest saved form: seven servers, each with all that it can hold.
 pub const LONGEST: usize = FIRST_LINE + cluster::MOST_SERVERS * LONGEST_SERVER;
 
+// The sorts' numbers.
+pub const FIRST: u8 = 0;
+
+pub const SERVER: u8 = 1;
+
+pub const ENTRY: u8 = 2;
+
+pub const NOTE: u8 = 3;
+
+pub const REPORT: u8 = 4;
+
 // The sorts of frames.
 pub enum Sort {
     First,
@@ -72,11 +83,11 @@ pub fn sort_number(s: Sort) -> u8
     ensures { λ r. ⌜ r ≡ sortNumber s ⌝ }
 {
     match s {
-        Sort::First => 0,
-        Sort::Server => 1,
-        Sort::Entry => 2,
-        Sort::Note => 3,
-        Sort::Report => 4,
+        Sort::First => FIRST,
+        Sort::Server => SERVER,
+        Sort::Entry => ENTRY,
+        Sort::Note => NOTE,
+        Sort::Report => REPORT,
     }
 }
 

@@ -6,7 +6,8 @@ use Prim.Native.Nat.{ℕ, _≤_, _<_}
 use native.Mathlib.Omega.{arith}
 use lib.ListN.{length, take, replicate, length-take}
 use Rattle.hex.specs.Lines.{bytesOf, over}
-use Rattle.words.proofs.Held.{held-over, held-past, held-within}
+use Rattle.lines.specs.Held.{nothingRead}
+use Rattle.lines.proofs.Held.{held-over, held-past, held-within}
 use Rattle.saved.specs.declared.Sort.{Sort}
 use Rattle.saved.specs.Layout.{sizeOf}
 use Rattle.saved.specs.Shape.{isFrame}
@@ -14,7 +15,8 @@ use Rattle.saved.specs.Written.{mostBytes}
 use Rattle.shapes.specs.declared.Shape.{Shape}
 use Rattle.shapes.specs.declared.Due.{Due}
 use Rattle.shapes.specs.declared.Due.the-variants.{Frame, End}
-use Rattle.shapes.specs.Walk.{keptChars, dueOf, numberAfter, shapeHeld, brokenAt, nextLine, endedAs, lineEnded}
+use Rattle.lines.specs.Texts.{oneMore}
+use Rattle.shapes.specs.Walk.{keptChars, frameReader, dueOf, shapeHeld, brokenAt, nextLine, endedAs, lineEnded}
 use Rattle.shapes.proofs.Frames.{small, bytes-same, saysSo, left-same}
 
 module _ (s : Shape) where
@@ -28,36 +30,36 @@ module _ (s : Shape) where
     by-test t e =
         sym (ap (λ (d : Due). endedAs d s) due ∙ ap (λ (x : Bool). cond x (nextLine k (bytesOf (shapeHeld s)) s) (brokenAt s)) e)
 
-    pub judged-over : s .over ≡ true → brokenAt s ≡ lineEnded s
+    pub judged-over : s .reader .over ≡ true → brokenAt s ≡ lineEnded s
     unfolding isFrame
-    judged-over e = by-test false (sym (held-over (sizeOf k) (saysSo k) false keptChars (small k) (s .held) (s .fill) (s .over) e))
+    judged-over e = by-test false (sym (held-over (sizeOf k) (saysSo k) false keptChars (small k) (s .reader .held) (s .reader .fill) (s .reader .over) e))
 
-    pub judged-past : keptChars < s .fill → brokenAt s ≡ lineEnded s
+    pub judged-past : keptChars < s .reader .fill → brokenAt s ≡ lineEnded s
     unfolding isFrame
-    judged-past h = by-test false (sym (held-past (sizeOf k) (saysSo k) false keptChars (small k) (s .held) (s .fill) (s .over) h))
+    judged-past h = by-test false (sym (held-past (sizeOf k) (saysSo k) false keptChars (small k) (s .reader .held) (s .reader .fill) (s .reader .over) h))
 
-    module _ (o : s .over ≡ false) (h : s .fill ≤ keptChars) where
-      pub judged-other : isFrame k (take (s .fill) (s .held)) ≡ false → brokenAt s ≡ lineEnded s
-      judged-other e = by-test false (ap (isFrame k) (sym (held-within keptChars (s .held) (s .fill) (s .over) o h)) ∙ e)
+    module _ (o : s .reader .over ≡ false) (h : s .reader .fill ≤ keptChars) where
+      pub judged-other : isFrame k (take (s .reader .fill) (s .reader .held)) ≡ false → brokenAt s ≡ lineEnded s
+      judged-other e = by-test false (ap (isFrame k) (sym (held-within keptChars (s .reader .held) (s .reader .fill) (s .reader .over) o h)) ∙ e)
 
-      pub judged-frame : (q : Shape) (bs : List ℕ) → isFrame k (take (s .fill) (s .held)) ≡ true
-          → bs ≡ over (bytesOf (take (s .fill) (s .held))) (replicate mostBytes 0) → q ≡ nextLine k bs s → q ≡ lineEnded s
+      pub judged-frame : (q : Shape) (bs : List ℕ) → isFrame k (take (s .reader .fill) (s .reader .held)) ≡ true
+          → bs ≡ over (bytesOf (take (s .reader .fill) (s .reader .held))) (replicate mostBytes 0) → q ≡ nextLine k bs s → q ≡ lineEnded s
       judged-frame q bs e f g =
-          let line = take (s .fill) (s .held) in
-          let held : line ≡ shapeHeld s = held-within keptChars (s .held) (s .fill) (s .over) o h in
-          let same = left-same bs (bytesOf line) (bytes-same line bs (omega (arith, length-take (s .fill) (s .held))) f) k (s .left) in
-          g ∙ (λ i. record { left = same i; held = replicate keptChars 0; fill = 0; over = false; number = numberAfter (s .number); broken = s .broken })
+          let line = take (s .reader .fill) (s .reader .held) in
+          let held : line ≡ shapeHeld s = held-within keptChars (s .reader .held) (s .reader .fill) (s .reader .over) o h in
+          let same = left-same bs (bytesOf line) (bytes-same line bs (omega (arith, length-take (s .reader .fill) (s .reader .held))) f) k (s .left) in
+          g ∙ (λ i. record { left = same i; reader = nothingRead keptChars frameReader; number = oneMore (s .number); broken = s .broken })
           ∙ ap (λ (x : List ℕ). nextLine k (bytesOf x) s) held ∙ by-test true (ap (isFrame k) (sym held) ∙ e)
 
 -- as many characters are kept as before
-pub ended-slots : (s : Shape) → length (s .held) ≡ keptChars → length (lineEnded s .held) ≡ keptChars
+pub ended-slots : (s : Shape) → length (s .reader .held) ≡ keptChars → length (lineEnded s .reader .held) ≡ keptChars
 unfolding endedAs
 ended-slots s l = go (dueOf (s .left))
   where
-    by : (k : Sort) (t : Bool) → length (cond {A = Shape} t (nextLine k (bytesOf (shapeHeld s)) s) (brokenAt s) .held) ≡ keptChars
+    by : (k : Sort) (t : Bool) → length (cond {A = Shape} t (nextLine k (bytesOf (shapeHeld s)) s) (brokenAt s) .reader .held) ≡ keptChars
     by k true = refl
     by k false = l
 
-    go : (d : Due) → length (endedAs d s .held) ≡ keptChars
+    go : (d : Due) → length (endedAs d s .reader .held) ≡ keptChars
     go (Frame k) = by k (isFrame k (shapeHeld s))
     go End = l

@@ -5,25 +5,25 @@ use mathlib.Core.List.{List, [], _∷_, _++_, append-assoc, append-nil}
 use Prim.Native.Nat.{ℕ, suc, _+_, _-_, _≤_, _<_}
 use native.Mathlib.Numerals.{add-one}
 use native.Mathlib.Omega.{arith}
-use borrow.Author.Tests.{lt-ltb, le-ltb, eq-eqb, ne-eqb, eqb-true, eqb-false}
+use borrow.Author.Tests.{eq-eqb, ne-eqb, eqb-true, eqb-false}
 use lib.Dec.{eqb}
-use lib.ListN.{length, getD, drop, set}
+use lib.ListN.{length, getD, drop}
 use lib.Seq.{drop-cons}
 use Rattle.base.proofs.Bools.{and-no}
 use Rattle.hex.specs.Lines.{bytesOf}
 use Rattle.hex.proofs.Places.{hex-length}
 use Rattle.words.proofs.Framed.{is-frame}
-use Rattle.words.proofs.Held as Held
-use Rattle.words.proofs.Held.{empty-stands, held-empty, held-some, held-is, held-framed, push-holds}
-use Rattle.replay.specs.Texts.{lineFeed, lines}
-use Rattle.replay.proofs.Lines.{Plain, none, more, plain-snoc, line-first}
+use Rattle.lines.proofs.Held as Held
+use Rattle.lines.proofs.Held.{empty-stands, held-empty, held-some, held-is, held-framed, push-holds}
+use Rattle.lines.specs.Texts.{lineFeed, lines}
+use Rattle.lines.proofs.Lines.{Plain, none, more, plain-snoc, line-first}
 use Rattle.saved.specs.declared.Sort.{Sort}
 use Rattle.saved.specs.declared.Sort.the-variants as S
 use Rattle.saved.specs.Layout.{sizeOf}
 use Rattle.saved.specs.Shape.{isFrame, shapedBy, shaped}
 use Rattle.shapes.specs.declared.Shape.{Shape}
 use Rattle.shapes.specs.declared.Due.{Due}
-use Rattle.shapes.specs.Walk.{keptChars, freshShape, todo, leftAfter, shapeHeld, withLine, shapePush, brokenAt, nextLine, endedAs, lineEnded, shapeAfter, walked, isShaped}
+use Rattle.shapes.specs.Walk.{keptChars, frameReader, framePush, freshShape, todo, leftAfter, shapeHeld, withReader, shapePush, brokenAt, nextLine, endedAs, lineEnded, shapeAfter, walked, isShaped}
 use Rattle.shapes.proofs.Frames.{small, saysSo}
 use Rattle.shapes.proofs.Ahead.{Tells, over, next, tells, at-end}
 
@@ -58,12 +58,12 @@ closed-plain b (d ∷ ds) (more e q) = closed-plain d ds q
 
 -- the line that is held stands for the characters p
 abbrev StandsFor : Shape → List ℕ → Type 0
-StandsFor s p = Held.StandsFor keptChars (s .held) (s .fill) (s .over) p
+StandsFor s p = Held.StandsFor keptChars (s .reader .held) (s .reader .fill) (s .reader .over) p
 
 -- it is a frame where they are one, and has their bytes
 held-frame : (k : Sort) (s : Shape) {p : List ℕ} → StandsFor s p → isFrame k (shapeHeld s) ≡ isFrame k p
 unfolding isFrame
-held-frame k s h = held-framed (sizeOf k) (saysSo k) false keptChars (small k) (s .held) (s .fill) (s .over) h
+held-frame k s h = held-framed (sizeOf k) (saysSo k) false keptChars (small k) (s .reader .held) (s .reader .fill) (s .reader .over) h
 
 held-bytes : (k : Sort) (s : Shape) {p : List ℕ} → StandsFor s p → isFrame k p ≡ true → shapeHeld s ≡ p
 unfolding isFrame
@@ -87,16 +87,6 @@ pub after-character : (s : Shape) (b : ℕ) → s .broken ≡ false → (b ≡ l
 unfolding shapeAfter
 after-character s b e f =
     ap (λ (x : Bool). cond x s (cond (eqb b lineFeed) (lineEnded s) (shapePush s b))) e ∙ ap (λ (x : Bool). cond x (lineEnded s) (shapePush s b)) (ne-eqb b lineFeed f)
-
--- the same with what the line holds then
-pub after-kept : (s : Shape) (b : ℕ) → s .broken ≡ false → (b ≡ lineFeed → ⊥) → s .fill < keptChars
-    → withLine s (set (s .held) (s .fill) b) (s .fill + 1) (s .over) ≡ shapeAfter s b
-after-kept s b e f h =
-    sym (after-character s b e f ∙ ap (λ (x : Bool). cond x (withLine s (set (s .held) (s .fill) b) (s .fill + 1) (s .over)) (withLine s (s .held) (s .fill) true)) (lt-ltb (s .fill) keptChars h))
-
-pub after-full : (s : Shape) (b : ℕ) → s .broken ≡ false → (b ≡ lineFeed → ⊥) → keptChars ≤ s .fill → withLine s (s .held) (s .fill) true ≡ shapeAfter s b
-after-full s b e f h =
-    sym (after-character s b e f ∙ ap (λ (x : Bool). cond x (withLine s (set (s .held) (s .fill) b) (s .fill + 1) (s .over)) (withLine s (s .held) (s .fill) true)) (le-ltb (s .fill) keptChars h))
 
 -- once broken it stays as it is
 pub broken-stays : (s : Shape) (text : List ℕ) → s .broken ≡ true → walked s text ≡ s
@@ -131,7 +121,7 @@ at-feed text right s p b h (next k ks e f) = go (isFrame k p) refl
     go false y = rw (held-frame k s h ∙ y, e, y) (broken-told (brokenAt s) text refl ∙ sym (and-no (closed text) false refl))
 
 from : (text : List ℕ) → Right text
-unfolding isShaped closed
+unfolding isShaped closed framePush
 from [] s [] b q h = simp (b, held-empty h) (at-end (tells (s .left)))
 from [] s (c ∷ p) b q h =
     simp (b, held-some h) (sym (ap (λ (x : Bool). x && shapedBy (todo (s .left)) (lines (c ∷ p ++ []))) (ap closed (append-nil (c ∷ p)) ∙ closed-plain c p q)))
@@ -149,8 +139,8 @@ from (c ∷ text) s p b q h = go (from text) (eqb c lineFeed) refl
         ∙ ap (λ (x : List (List ℕ)). closed text && shapedBy (todo (s .left)) x) (line-first text q))
     go right false e =
         ap (λ (r : Shape). isShaped (walked r text)) (after-character s c b (eqb-false c lineFeed e))
-        ∙ push-holds (withLine s) Rest c
-        (λ held fill over r. right (withLine s held fill over) (p ++ (c ∷ [])) b (plain-snoc c q e) r
+        ∙ push-holds keptChars frameReader (λ r. Rest (withReader s r)) c
+        (λ held fill over r. right (withReader s (frameReader held fill over)) (p ++ (c ∷ [])) b (plain-snoc c q e) r
         ∙ ap (λ (x : List ℕ). closed x && shapedBy (todo (s .left)) (lines x)) (append-assoc p (c ∷ []) text)) h
 
 -- THE THEOREM

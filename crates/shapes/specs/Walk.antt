@@ -2,18 +2,19 @@
 -- to `shaped`. Assumes nothing.
 use mathlib.Core.Bool.{Bool, true, false, cond, not, _&&_}
 use mathlib.Core.List.{List, [], _∷_, _++_}
-use Prim.Native.Nat.{ℕ, _+_, _-_, _*_, _^_}
+use Prim.Native.Nat.{ℕ, _-_, _*_}
 use lib.Dec.{eqb, ltb}
 use lib.ListN.{replicate}
 use Rattle.hex.specs.Lines.{chars, bytesOf}
 use Rattle.words.specs.Words.{byteAt, wordAt}
-use Rattle.words.specs.Held.{heldLine, pushed, nothingHeld}
-use Rattle.replay.specs.Texts.{lineFeed}
+use Rattle.lines.specs.Held.{heldLine, nothingHeld, nothingRead, pushed}
+use Rattle.lines.specs.Texts.{lineFeed, oneMore}
 use Rattle.saved.specs.declared.Sort.{Sort}
 use Rattle.saved.specs.declared.Sort.the-variants as S
 use Rattle.saved.specs.Shape.{isFrame}
 use Rattle.saved.specs.Written.{mostBytes}
 use Rattle.shapes.specs.declared.Left.{Left}
+use Rattle.shapes.specs.declared.FrameReader.{FrameReader}
 use Rattle.shapes.specs.declared.Shape.{Shape}
 use Rattle.shapes.specs.declared.Due.{Due}
 use Rattle.shapes.specs.declared.Due.the-variants.{Frame, End}
@@ -22,14 +23,19 @@ use Rattle.shapes.specs.declared.Due.the-variants.{Frame, End}
 abbrev pub keptChars : ℕ
 keptChars = chars * mostBytes
 
+-- a reader of a line, and with one character more
+abbrev pub frameReader : List ℕ → ℕ → Bool → FrameReader
+frameReader held fill over = record { held = held; fill = fill; over = over }
+
+unfoldable pub framePush : FrameReader → ℕ → FrameReader
+framePush r b = pushed keptChars frameReader (r .held) (r .fill) (r .over) b
+
 -- nothing was read
 abbrev pub freshShape : Shape
 freshShape =
     record {
       left = record { begun = false; servers = 0; entries = 0; notes = 0; reports = 0 };
-      held = replicate keptChars 0;
-      fill = 0;
-      over = false;
+      reader = nothingRead keptChars frameReader;
       number = 1;
       broken = false;
     }
@@ -62,34 +68,25 @@ leftAfter S.Report bs l = record { begun = l .begun; servers = l .servers; entri
 
 -- the line that is held, and with one character more
 abbrev pub shapeHeld : Shape → List ℕ
-shapeHeld s = heldLine keptChars (s .held) (s .fill) (s .over)
+shapeHeld s = heldLine keptChars (s .reader .held) (s .reader .fill) (s .reader .over)
 
-abbrev pub withLine : Shape → List ℕ → ℕ → Bool → Shape
-withLine s held fill over = record { left = s .left; held = held; fill = fill; over = over; number = s .number; broken = s .broken }
+abbrev pub withReader : Shape → FrameReader → Shape
+withReader s r = record { left = s .left; reader = r; number = s .number; broken = s .broken }
 
 abbrev pub shapePush : Shape → ℕ → Shape
-shapePush s b = pushed keptChars (withLine s) (s .held) (s .fill) (s .over) b
-
--- lines are counted as far as a number goes
-abbrev pub mostLines : ℕ
-mostLines = 2 ^ 64 - 1
-
-unfoldable pub numberAfter : ℕ → ℕ
-numberAfter n = cond (ltb n mostLines) (n + 1) n
+shapePush s b = withReader s (framePush (s .reader) b)
 
 -- the line that is held isn't the one that is due
 abbrev pub brokenAt : Shape → Shape
-brokenAt s = record { left = s .left; held = s .held; fill = s .fill; over = s .over; number = s .number; broken = true }
+brokenAt s = record { left = s .left; reader = s .reader; number = s .number; broken = true }
 
 -- a line came with these bytes, and the next one begins
 abbrev pub nextLine : Sort → List ℕ → Shape → Shape
 nextLine k bs s =
     record {
       left = leftAfter k bs (s .left);
-      held = replicate keptChars 0;
-      fill = 0;
-      over = false;
-      number = numberAfter (s .number);
+      reader = nothingRead keptChars frameReader;
+      number = oneMore (s .number);
       broken = s .broken;
     }
 
@@ -115,4 +112,4 @@ isEnd End = true
 
 -- not broken, no line begun, nothing due
 unfoldable pub isShaped : Shape → Bool
-isShaped s = not (s .broken) && (nothingHeld (s .fill) (s .over) && isEnd (dueOf (s .left)))
+isShaped s = not (s .broken) && (nothingHeld (s .reader .fill) (s .reader .over) && isEnd (dueOf (s .left)))

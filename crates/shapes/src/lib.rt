@@ -9,14 +9,10 @@ ghost use Rattle.words.specs.Words.{byteAt};
 ghost use Rattle.saved.specs.Layout.{sortNumber, sizeOf};
 ghost use Rattle.saved.specs.Shape.{editionOk, isFrame};
 ghost use Rattle.saved.specs.Written.{mostBytes};
-ghost use Rattle.shapes.specs.Walk.{freshShape, dueOf, leftAfter, numberAfter, brokenAt, nextLine, lineEnded, walked, isShaped};
+ghost use Rattle.lines.specs.Held.{nothingRead, onlyLong};
+ghost use Rattle.shapes.specs.Walk.{keptChars, frameReader, framePush, shapePush, freshShape, dueOf, leftAfter, brokenAt, nextLine, lineEnded, walked, isShaped};
 use saved::Sort;
 use words::word;
-
-const LINE_FEED: u8 = 10;
-
-// The greatest number that a line can have.
-const MOST_LINES: usize = 0xffff_ffff_ffff_ffff;
 
 // The characters of the longest frame.
 pub const MOST_CHARS: usize = hex::CHARS * saved::SERVER_BYTES;
@@ -30,13 +26,18 @@ pub struct Left {
     pub reports: usize,
 }
 
-// How far the shape of a text is told: the frames that are left, the line that is being read (at most the longest frame's characters,
-// how many there are, and whether there were more), its number, and whether the shape is broken there.
-pub struct Shape {
-    pub left: Left,
+// The line that is being read, as wide as the longest frame: its characters, how many there are, and whether it is too long; then nothing else
+// is kept.
+pub struct FrameReader {
     pub held: [u8; MOST_CHARS],
     pub fill: usize,
     pub over: bool,
+}
+
+// How far the shape of a text is told: the frames that are left, the line that is being read, its number, and whether the shape is broken there.
+pub struct Shape {
+    pub left: Left,
+    pub reader: FrameReader,
     pub number: usize,
     pub broken: bool,
 }
@@ -56,18 +57,6 @@ fn size_of(k: Sort) -> usize
         Sort::Entry => saved::ENTRY_BYTES,
         Sort::Note => saved::TOLD_BYTES,
         Sort::Report => saved::TOLD_BYTES,
-    }
-}
-
-fn number_of(k: Sort) -> u8
-    ensures { λ r. ⌜ r ≡ sortNumber k ⌝ }
-{
-    match k {
-        Sort::First => 0,
-        Sort::Server => 1,
-        Sort::Entry => 2,
-        Sort::Note => 3,
-        Sort::Report => 4,
     }
 }
 
@@ -96,7 +85,7 @@ fn bytes_in(line: &[u8]) -> [u8; saved::SERVER_BYTES]
 fn says(k: Sort, b: [u8; saved::SERVER_BYTES]) -> bool
     ensures { λ r. ⌜ r ≡ (eqb (byteAt b 0) (sortNumber k) && editionOk k b) ⌝ }
 {
-    if b[0] != number_of(k) {
+    if b[0] != saved::sort_number(k) {
         return false;
     }
     edition_ok(k, b)
@@ -180,13 +169,42 @@ fn due_of(l: Left) -> Due
     Due::End
 }
 
-fn number_after(n: usize) -> usize
-    ensures { λ r. ⌜ r ≡ numberAfter n ⌝ }
+// Before the first character of a line; and a line that is too long, of which that alone is remembered.
+fn fresh_frame() -> FrameReader
+    ensures { λ r. ⌜ r ≡ nothingRead keptChars frameReader ⌝ }
 {
-    if n < MOST_LINES {
-        return n + 1;
+    FrameReader {
+        held: [0; MOST_CHARS],
+        fill: 0,
+        over: false,
     }
-    n
+}
+
+fn only_long() -> FrameReader
+    ensures { λ r. ⌜ r ≡ onlyLong keptChars frameReader ⌝ }
+{
+    FrameReader {
+        held: [0; MOST_CHARS],
+        fill: 0,
+        over: true,
+    }
+}
+
+// The reader with one character more.
+fn pushed(r: FrameReader, b: u8) -> FrameReader
+    ensures { λ q. ⌜ q ≡ framePush r b ⌝ }
+{
+    if r.over {
+        return only_long();
+    }
+    let at = r.fill;
+    if MOST_CHARS <= at {
+        return only_long();
+    }
+    let mut q = r;
+    q.held[at] = b;
+    q.fill = at + 1;
+    q
 }
 
 // The shape of a text of which nothing was read.
@@ -201,9 +219,7 @@ pub fn begin() -> Shape
             notes: 0,
             reports: 0,
         },
-        held: [0; MOST_CHARS],
-        fill: 0,
-        over: false,
+        reader: fresh_frame(),
         number: 1,
         broken: false,
     }
@@ -233,10 +249,8 @@ fn next_line(k: Sort, b: [u8; saved::SERVER_BYTES], s: Shape) -> Shape
     let left = left_after(k, b, l);
     Shape {
         left: left,
-        held: [0; MOST_CHARS],
-        fill: 0,
-        over: false,
-        number: number_after(s.number),
+        reader: fresh_frame(),
+        number: lines::one_more(s.number),
         broken: s.broken,
     }
 }
@@ -249,19 +263,31 @@ fn line_ended(s: Shape) -> Shape
     let Due::Frame(k) = due else {
         return broken_at(s);
     };
-    if s.over {
+    if s.reader.over {
         return broken_at(s);
     }
-    let n = s.fill;
+    let n = s.reader.fill;
     if MOST_CHARS < n {
         return broken_at(s);
     }
-    let h = s.held;
+    let r = s.reader;
+    let h = r.held;
     if !is_frame(k, &h[..n]) {
         return broken_at(s);
     }
     let b = bytes_in(&h[..n]);
     next_line(k, b, s)
+}
+
+// A character of the line.
+fn with_character(s: Shape, b: u8) -> Shape
+    ensures { λ r. ⌜ r ≡ shapePush s b ⌝ }
+{
+    let r = s.reader;
+    Shape {
+        reader: pushed(r, b),
+        ..s
+    }
 }
 
 // The shape after one piece more of the text.
@@ -276,17 +302,11 @@ pub fn walk(s: Shape, piece: &[u8]) -> Shape
         }
         let b = piece[i];
         i += 1;
-        if b == LINE_FEED {
+        if b == lines::LINE_FEED {
             q = line_ended(q);
             continue;
         }
-        let at = q.fill;
-        if at < MOST_CHARS {
-            q.held[at] = b;
-            q.fill = at + 1;
-            continue;
-        }
-        q.over = true;
+        q = with_character(q, b);
     }
     q
 }
@@ -298,10 +318,10 @@ pub fn is_shaped(s: Shape) -> bool
     if s.broken {
         return false;
     }
-    if s.over {
+    if s.reader.over {
         return false;
     }
-    if s.fill != 0 {
+    if s.reader.fill != 0 {
         return false;
     }
     let due = expected(s);

@@ -8,7 +8,8 @@ use Prim.Native.Nat.{ℕ}
 use lib.IntN.{ℤ}
 use Rattle.cluster.specs.declared.Cluster.{Cluster}
 use Rattle.replay.specs.declared.Session.{Session}
-use Rattle.replay.specs.Pieces.{says, placed}
+use Rattle.lines.specs.Texts.{placed}
+use Rattle.replay.specs.Pieces.{says}
 use Rattle.shell.specs.declared.Drained.{Drained}
 use Rattle.shell.specs.declared.saves.Led.{Led}
 use Rattle.shell.specs.Loop.{Poured, Turned, Drains, Answered}

@@ -2,18 +2,16 @@
 use mathlib.Core.Path.{_≡_, refl, sym, ap, _∙_, subst}
 use mathlib.Core.Bool.{Bool, true, false, cond, _&&_}
 use mathlib.Core.List.{List, [], _∷_, _++_}
-use Prim.Native.Nat.{ℕ, _≤_, _<_, _*_, _+_, _-_, min}
-use native.Mathlib.Numerals.{unary-clauses}
+use Prim.Native.Nat.{ℕ, _≤_, _<_, _*_, _+_, _-_}
 use native.Mathlib.Omega.{arith}
 use lib.ListN.{length, take, length-append}
-use lib.IntN.{ℤ, pos, negsuc}
+use lib.IntN.{ℤ, pos}
 use lib.Signed.{ltZ}
 use mir.Syntax.{w64}
 use mir.Val.{SFits, toZ, ofZ}
-use mir.ValLaws.{toZ-ofZ}
 use types.Run.{OneOf, miss}
 use denote.Enum.Declared.{tagOf}
-use borrow.Author.Tests.{ne-eqb, ltb-true, le-ltb}
+use borrow.Author.Tests.{le-ltb}
 use Rattle.io.specs.Counts.{clamped}
 use Rattle.base.proofs.Bools.{not-both}
 use Rattle.cluster.specs.declared.Cluster.{Cluster}
@@ -21,15 +19,20 @@ use Rattle.replay.specs.declared.Session.{Session}
 use Rattle.replay.specs.declared.Fed.{Fed}
 use Rattle.replay.specs.declared.Finished.{Finished}
 use Rattle.replay.specs.Texts.{answers, leaves}
-use Rattle.replay.specs.Pieces.{answerLine, begun, runs, says, together, runsAll, saysAll, placed, fedOf, fedOut, isEmpty, ending, ended, finishOf}
+use Rattle.lines.specs.Texts.{together, placed}
+use Rattle.lines.specs.Readers.{isEmpty}
+use Rattle.replay.specs.Pieces.{answerLine, begun, runs, says, runsAll, saysAll, fedOf, fedOut, ending, ended, finishOf}
 use Rattle.replay.proofs.Whole.{any-pieces, any-pieces-record}
 use Rattle.replay.proofs.Parts.{fed-all, fed-all-out}
-use Rattle.shell.specs.declared.End.{End}
-use Rattle.shell.specs.declared.End.the-variants.{More, Input, CannotRead, CannotWrite}
+use Rattle.lines.specs.declared.End.{End}
+use Rattle.lines.specs.declared.End.the-variants.{More, Input, CannotRead, CannotWrite}
 use Rattle.shell.specs.declared.Drained.{Drained}
 use Rattle.shell.specs.declared.saves.Led.{Led}
-use Rattle.shell.proofs.End.{the-type}
-use Rattle.shell.specs.Loop.{endOf, closedBy, finishedBy, atEnd, given, mostTurns, Poured, Turned, Drains, Finishes, Answered}
+use Rattle.lines.proofs.End.{the-type}
+use Rattle.lines.specs.Turns.{endOf, isInput, given, mostTurns}
+use Rattle.lines.specs.Folds.{atEnd}
+use Rattle.lines.proofs.Turns.{read-end, read-failed, read-some}
+use Rattle.shell.specs.Loop.{closedBy, finishedBy, Poured, Turned, Drains, Finishes, Answered}
 
 pub poured : (s : Session) (piece out out′ : List ℕ) (f : Fed) (wrote : Bool) (r : Drained) → answerLine * length piece ≤ length out
     → f ≡ fedOf s piece (length out) → out′ ≡ fedOut s piece out → r ≡ closedBy (f .session) wrote
@@ -43,55 +46,19 @@ poured s piece out out′ f wrote r h e o p = (
   o ∙ fed-all-out s piece out h,
 )
 
--- the places of the ends at which it is over
-abbrev ends : List ℕ
-ends = 1 ∷ 2 ∷ 3 ∷ []
+-- the read answered 0, that it failed, or some bytes
+module _ (s : Session) (buffer : List ℕ) (got : ℤ) (f : SFits w64 got) where
+  pub turned-end : ofZ w64 got ≡ 0 → Turned s buffer got (record { session = s; end = Input })
+  turned-end e = let a = read-end buffer got f e in record { session = ap (runs s) (a .piece); wrote = true; end = a .end }
 
-pub over : (e : End) → OneOf ends (tagOf the-type e) → e ≡ More → ⊥
-over e h m = miss ends 0 tt (subst (λ (x : End). OneOf ends (tagOf the-type x)) m h)
+  pub turned-failed : ltZ (toZ w64 (ofZ w64 got)) (pos 0) ≡ true → Turned s buffer got (record { session = s; end = CannotRead })
+  turned-failed e = let a = read-failed buffer got f e in record { session = ap (runs s) (a .piece); wrote = true; end = a .end }
 
--- what the tests of a signed number say of it
-pub signed-is : (z : ℤ) (n : ℕ) → SFits w64 z → ofZ w64 z ≡ n → z ≡ toZ w64 n
-signed-is z n f e = sym (toZ-ofZ w64 z f) ∙ ap (toZ w64) e
-
-pub signed-below : (z : ℤ) (b : Bool) → SFits w64 z → ltZ (toZ w64 (ofZ w64 z)) (pos 0) ≡ b → ltZ z (pos 0) ≡ b
-signed-below z b f e = ap (λ (y : ℤ). ltZ y (pos 0)) (sym (toZ-ofZ w64 z f)) ∙ e
-
-pub none : (n : ℕ) → 0 ≡ min 0 n
-none n = simp unary-clauses
-
--- the read answered 0
-pub turned-end : (s : Session) (buffer : List ℕ) (got : ℤ) → SFits w64 got → ofZ w64 got ≡ 0
-    → Turned s buffer got (record { session = s; end = Input })
-unfolding endOf
-turned-end s buffer got f e =
-    rw (signed-is got 0 f e) (record { session = ap (λ (k : ℕ). runs s (take k buffer)) (none (length buffer)); wrote = true; end = refl })
-
--- the read answered that it failed
-pub turned-failed : (s : Session) (buffer : List ℕ) (got : ℤ) → SFits w64 got → ltZ (toZ w64 (ofZ w64 got)) (pos 0) ≡ true
-    → Turned s buffer got (record { session = s; end = CannotRead })
-unfolding endOf
-turned-failed s buffer got f e = go got (signed-below got true f e)
-  where
-    go : (z : ℤ) → ltZ z (pos 0) ≡ true → Turned s buffer z (record { session = s; end = CannotRead })
-    go (pos n) h = let l : n < 0 = ltb-true n 0 h in let z : ⊥ = omega arith in absurd z
-    go (negsuc n) h = record { session = refl; wrote = true; end = refl }
-
--- the read answered some bytes
-pub turned-piece : (s : Session) (buffer : List ℕ) (got : ℤ) (n : ℕ) (r : Drained) → SFits w64 got → (ofZ w64 got ≡ 0 → ⊥)
-    → ltZ (toZ w64 (ofZ w64 got)) (pos 0) ≡ false → n ≡ clamped (toZ w64 (ofZ w64 got)) (length buffer) → Poured s (take n buffer) r → Turned s buffer got r
-unfolding endOf
-turned-piece s buffer got n r f a b e p =
-    go got (signed-below got false f b) (λ z. a (ap (ofZ w64) z)) (e ∙ ap (λ (z : ℤ). clamped z (length buffer)) (toZ-ofZ w64 got f))
-  where
-    go : (z : ℤ) → ltZ z (pos 0) ≡ false → (z ≡ pos 0 → ⊥) → n ≡ clamped z (length buffer) → Turned s buffer z r
-    go (pos k) h some e =
-        record {
-          session = p .session ∙ ap (λ (j : ℕ). runs s (take j buffer)) e;
-          wrote = p .wrote;
-          end = rw (ne-eqb k 0 (λ z. some (ap pos z))) (p .end);
-        }
-    go (negsuc k) h some e = let z : _≡_ {A = ℕ} 0 1 = cc in let w : ⊥ = omega arith in absurd w
+  pub turned-piece : (n : ℕ) (r : Drained) → (ofZ w64 got ≡ 0 → ⊥) → ltZ (toZ w64 (ofZ w64 got)) (pos 0) ≡ false
+      → n ≡ clamped (toZ w64 (ofZ w64 got)) (length buffer) → Poured s (take n buffer) r → Turned s buffer got r
+  turned-piece n r some b e p =
+      let a = read-some buffer got f (p .wrote) n some b (λ k z. e ∙ ap (λ (y : ℤ). clamped y (length buffer)) z) in
+      record { session = p .session ∙ ap (runs s) (a .piece); wrote = p .wrote; end = p .end ∙ a .end }
 
 -- one piece more
 pub runs-all-more : (s : Session) (xs : List (List ℕ)) (x : List ℕ) → runsAll s (xs ++ (x ∷ [])) ≡ runs (runsAll s xs) x
@@ -138,7 +105,7 @@ drained-says c r d = ap (λ (s : Session). saysAll (begun c) (d .pieces) ++ endi
 
 -- with room for an answer line, the record after the end
 pub finished-record : (s : Session) (room : ℕ) (f : Finished) → answerLine ≤ room → f ≡ finishOf s room → f .session .cluster ≡ ended s
-unfolding finishOf ended
+unfolding finishOf atEnd
 finished-record s room f h e = ap (λ (x : Finished). x .session .cluster) e ∙ go (isEmpty (s .reader)) refl
   where
     go : (x : Bool) → isEmpty (s .reader) ≡ x → finishOf s room .session .cluster ≡ ended s
@@ -164,7 +131,7 @@ answered-all c s d r b g i e =
 abbrev others : List ℕ
 others = 0 ∷ 2 ∷ 3 ∷ []
 
-not-at-end : (e : End) → OneOf others (tagOf the-type e) → atEnd e ≡ false
+not-at-end : (e : End) → OneOf others (tagOf the-type e) → isInput e ≡ false
 not-at-end More h = refl
 not-at-end Input h = absurd (miss others 1 tt h)
 not-at-end CannotRead h = refl

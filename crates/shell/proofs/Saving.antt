@@ -3,7 +3,7 @@ use mathlib.Core.Path.{_≡_, refl, sym, ap, subst, _∙_}
 use mathlib.Core.Logic.{_⊎_, inl, inr, _↔_}
 use mathlib.Core.Bool.{Bool, true, false, cond}
 use mathlib.Core.List.{List, [], _∷_, _++_, append-assoc, append-nil}
-use Prim.Native.Nat.{ℕ, _≤_, _<_, _+_, _-_, min}
+use Prim.Native.Nat.{ℕ, _≤_, _<_, _+_, _-_}
 use native.Mathlib.Omega.{arith}
 use lib.Dec.{eqb, ltb}
 use lib.ListN.{length, take, length-append}
@@ -11,10 +11,9 @@ use lib.IntN.{ℤ, pos, negsuc}
 use lib.Signed.{ltZ}
 use mir.Syntax.{w64}
 use mir.Val.{SFits, toZ, ofZ}
-use mir.ValLaws.{toZ-ofZ}
 use types.Run.{OneOf, miss}
 use denote.Enum.Declared.{tagOf}
-use borrow.Author.Tests.{ne-eqb, eqb-true, lt-ltb, le-ltb, ltb-true, ltb-false}
+use borrow.Author.Tests.{eqb-true, lt-ltb, le-ltb, ltb-true, ltb-false}
 use Rattle.base.proofs.Bools.{not-both}
 use Rattle.io.specs.Counts.{clamped}
 use Rattle.cluster.specs.declared.Cluster.{Cluster}
@@ -26,7 +25,7 @@ use Rattle.steps.specs.declared.Outcome.{Outcome}
 use Rattle.steps.specs.declared.Refusal.the-variants.{NotAFrame, IllFormed}
 use Rattle.steps.specs.Answers.{refusingAll}
 use Rattle.steps.proofs.Answer.{the-type}
-use Rattle.replay.specs.Pieces.{together}
+use Rattle.lines.specs.Texts.{together}
 use Rattle.saved.specs.Written.{longest}
 use Rattle.saved.proofs.Frames.{saved-length}
 use Rattle.shapes.specs.declared.Shape.{Shape}
@@ -35,63 +34,44 @@ use Rattle.shapes.proofs.Told.{walked-append}
 use Rattle.loads.specs.Loads.{loaded, loadOf}
 use Rattle.loads.specs.Statements.{IsSaved}
 use Rattle.loads.proofs.Loads.{loads-exactly, loads-or-refuses}
-use Rattle.shell.specs.declared.End.the-variants.{More, Input, CannotRead}
+use Rattle.lines.specs.declared.End.{End}
+use Rattle.lines.specs.declared.End.the-variants.{More, Input, CannotRead}
 use Rattle.shell.specs.declared.saves.Walked.{Walked}
 use Rattle.shell.specs.declared.saves.Led.{Led}
-use Rattle.shell.specs.Loop.{mostTurns, endOf, given}
+use Rattle.lines.specs.Turns.{mostTurns, endOf, given}
 use Rattle.shell.specs.Saving.{cameBy, turnWalked, WalksOn, led, notLed, ledBy, ledOf, Loads}
-use Rattle.shell.proofs.Loop.{signed-is, signed-below, none}
+use Rattle.lines.proofs.Lines.{together-more}
+use Rattle.lines.proofs.Turns.{Answers, read-end, read-failed, read-some}
 
--- the read answered 0
-pub walked-end : (w : Walked) (buffer : List ℕ) (got : ℤ) → SFits w64 got → ofZ w64 got ≡ 0
-    → record { shape = w .shape; came = w .came; end = Input } ≡ turnWalked w buffer got
-unfolding endOf cameBy turnWalked
-walked-end w buffer got f e =
-    rw (signed-is got 0 f e)
-    (ap (λ (k : ℕ). record { shape = walked (w .shape) (take k buffer); came = w .came; end = Input }) (none (length buffer)))
+-- a turn, by what the read gave and how it ends
+turned : (w : Walked) (buffer : List ℕ) (got : ℤ) (piece : List ℕ) (e : End) → Answers got buffer true piece e
+    → record { shape = walked (w .shape) piece; came = cameBy e (w .came); end = e } ≡ turnWalked w buffer got
+unfolding turnWalked
+turned w buffer got piece e a = rw (← a .piece, ← a .end)
 
--- the read answered that it failed
-pub walked-failed : (w : Walked) (buffer : List ℕ) (got : ℤ) → SFits w64 got → ltZ (toZ w64 (ofZ w64 got)) (pos 0) ≡ true
-    → record { shape = w .shape; came = w .came; end = CannotRead } ≡ turnWalked w buffer got
-unfolding endOf cameBy turnWalked
-walked-failed w buffer got f e = go got (signed-below got true f e)
-  where
-    go : (z : ℤ) → ltZ z (pos 0) ≡ true → record { shape = w .shape; came = w .came; end = CannotRead } ≡ turnWalked w buffer z
-    go (pos n) h = let l : n < 0 = ltb-true n 0 h in let z : ⊥ = omega arith in absurd z
-    go (negsuc n) h = refl
+-- the read answered 0, that it failed, or some bytes
+module _ (w : Walked) (buffer : List ℕ) (got : ℤ) (f : SFits w64 got) where
+  pub walked-end : ofZ w64 got ≡ 0 → record { shape = w .shape; came = w .came; end = Input } ≡ turnWalked w buffer got
+  walked-end e = turned w buffer got [] Input (read-end buffer got f e)
 
--- the read answered some bytes
-pub walked-piece : (w : Walked) (buffer : List ℕ) (got : ℤ) (n : ℕ) (q : Shape) → SFits w64 got → (ofZ w64 got ≡ 0 → ⊥)
-    → ltZ (toZ w64 (ofZ w64 got)) (pos 0) ≡ false → n ≡ clamped (toZ w64 (ofZ w64 got)) (length buffer) → q ≡ walked (w .shape) (take n buffer)
-    → record { shape = q; came = true; end = More } ≡ turnWalked w buffer got
-unfolding endOf cameBy turnWalked
-walked-piece w buffer got n q f a b e p =
-    go got (signed-below got false f b) (λ z. a (ap (ofZ w64) z)) (e ∙ ap (λ (z : ℤ). clamped z (length buffer)) (toZ-ofZ w64 got f))
-  where
-    go : (z : ℤ) → ltZ z (pos 0) ≡ false → (z ≡ pos 0 → ⊥) → n ≡ clamped z (length buffer)
-        → record { shape = q; came = true; end = More } ≡ turnWalked w buffer z
-    go (pos k) h some e =
-        rw (ne-eqb k 0 (λ z. some (ap pos z)))
-        (ap (λ (x : Shape). record { shape = x; came = true; end = More }) (p ∙ ap (λ (j : ℕ). walked (w .shape) (take j buffer)) e))
-    go (negsuc k) h some e = let z : _≡_ {A = ℕ} 0 1 = cc in let w : ⊥ = omega arith in absurd w
+  pub walked-failed : ltZ (toZ w64 (ofZ w64 got)) (pos 0) ≡ true → record { shape = w .shape; came = w .came; end = CannotRead } ≡ turnWalked w buffer got
+  walked-failed e = turned w buffer got [] CannotRead (read-failed buffer got f e)
+
+  pub walked-piece : (n : ℕ) (q : Shape) → (ofZ w64 got ≡ 0 → ⊥) → ltZ (toZ w64 (ofZ w64 got)) (pos 0) ≡ false
+      → n ≡ clamped (toZ w64 (ofZ w64 got)) (length buffer) → q ≡ walked (w .shape) (take n buffer) → record { shape = q; came = true; end = More } ≡ turnWalked w buffer got
+  walked-piece n q some b e p =
+      ap (λ (x : Shape). record { shape = x; came = true; end = More }) p
+      ∙ turned w buffer got (take n buffer) More (read-some buffer got f true n some b (λ k z. e ∙ ap (λ (y : ℤ). clamped y (length buffer)) z))
 
 -- where nothing came, nothing was given
-none-given : (got : ℤ) (buffer : List ℕ) (before : Bool) → cameBy got before ≡ false → (before ≡ false) × (given got buffer ≡ [])
-unfolding cameBy
+none-given : (got : ℤ) (buffer : List ℕ) (before : Bool) → cameBy (endOf got true) before ≡ false → (before ≡ false) × (given got buffer ≡ [])
+unfolding endOf
 none-given (pos n) buffer before e = go (eqb n 0) refl e
   where
-    go : (x : Bool) → eqb n 0 ≡ x → cond x before true ≡ false → (before ≡ false) × (given (pos n) buffer ≡ [])
-    go true k e = (
-      e,
-      ap (λ (j : ℕ). take (min j (length buffer)) buffer) (eqb-true n 0 k) ∙ sym (ap (λ (j : ℕ). take j buffer) (none (length buffer))),
-    )
+    go : (x : Bool) → eqb n 0 ≡ x → cameBy (cond x Input More) before ≡ false → (before ≡ false) × (given (pos n) buffer ≡ [])
+    go true k e = (e, ap (λ (j : ℕ). take j buffer) (eqb-true n 0 k))
     go false k e = not-both true refl e
 none-given (negsuc n) buffer before e = (e, refl)
-
--- one piece more
-pub together-more : (xs : List (List ℕ)) (x : List ℕ) → together (xs ++ (x ∷ [])) ≡ together xs ++ x
-together-more [] x = append-nil x
-together-more (y ∷ ys) x = ap (λ (l : List ℕ). y ++ l) (together-more ys x) ∙ sym (append-assoc y (together ys) x)
 
 -- the shape is walked through some pieces, so many that the rest of the turns is left
 pub record Walking (s : Shape) (w : Walked) (turns : ℕ) : Type 0 where

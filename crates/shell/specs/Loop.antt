@@ -2,33 +2,19 @@
 -- `pour` and `turn` do follows, and `any-pieces` of `replay` says what pieces come to. Assumes nothing.
 use mathlib.Core.Path.{_≡_}
 use mathlib.Core.List.{List}
-use mathlib.Core.Bool.{Bool, true, false, cond, _&&_}
+use mathlib.Core.Bool.{Bool, true, cond, _&&_}
 use Prim.Native.Nat.{ℕ}
-use lib.Dec.{eqb}
-use lib.ListN.{length, take}
-use lib.IntN.{ℤ, pos, negsuc}
-use Rattle.io.specs.Counts.{clamped}
+use lib.ListN.{length}
+use lib.IntN.{ℤ}
 use Rattle.cluster.specs.declared.Cluster.{Cluster}
 use Rattle.replay.specs.declared.Session.{Session}
 use Rattle.replay.specs.Texts.{leaves}
-use Rattle.replay.specs.Pieces.{begun, together, runs, runsAll, ended}
-use Rattle.shell.specs.declared.End.{End}
-use Rattle.shell.specs.declared.End.the-variants.{More, Input, CannotRead, CannotWrite}
+use Rattle.lines.specs.Texts.{together}
+use Rattle.replay.specs.Pieces.{begun, runs, runsAll, ended}
+use Rattle.lines.specs.declared.End.the-variants.{More, CannotWrite}
+use Rattle.lines.specs.Turns.{mostTurns, given, endOf, isInput}
 use Rattle.shell.specs.declared.Drained.{Drained}
 use Rattle.shell.specs.declared.saves.Led.{Led}
-
--- how many bytes are read at once, and as many turns as a u64 counts
-abbrev pub mostPiece : ℕ
-mostPiece = 16384
-
-abbrev pub mostTurns : ℕ
-mostTurns = 18446744073709551615
-
--- how a turn ends, by what the read answered and whether the answers could be written: there may be more to read; the input is at
--- its end; it can't be read; the answers can't be written
-unfoldable pub endOf : ℤ → Bool → End
-endOf (pos n) wrote = cond (eqb n 0) Input (cond wrote More CannotWrite)
-endOf (negsuc n) wrote = CannotRead
 
 -- a piece is over, by whether its answers were written
 abbrev pub closedBy : Session → Bool → Drained
@@ -37,17 +23,6 @@ closedBy s wrote = record { session = s; end = cond wrote More CannotWrite }
 -- the last record: all went well where the last answer was written
 abbrev pub finishedBy : Cluster → Bool → Led
 finishedBy c wrote = record { cluster = c; well = wrote }
-
--- the turns came to the end of the input
-abbrev pub atEnd : End → Bool
-atEnd More = false
-atEnd Input = true
-atEnd CannotRead = false
-atEnd CannotWrite = false
-
--- the bytes that a read gave: so many of the buffer's first as it answered
-abbrev pub given : ℤ → List ℕ → List ℕ
-given got buffer = take (clamped got (length buffer)) buffer
 
 -- a piece: every byte of it has gone through the session, and its answers were written or can't be
 pub record Poured (s : Session) (piece : List ℕ) (r : Drained) : Type 0 where
@@ -82,5 +57,5 @@ pub record Answered (c : Cluster) (r : Led) : Type 0 where
   pub turns : Drained
   pub drains : Drains (begun c) turns
   pub wrote : Bool
-  pub well : r .well ≡ (atEnd (turns .end) && wrote)
+  pub well : r .well ≡ (isInput (turns .end) && wrote)
   pub record-left : r .well ≡ true → r .cluster ≡ leaves c (together (drains .pieces))

@@ -4,31 +4,34 @@ use mathlib.Core.Path.{_≡_}
 use mathlib.Core.List.{List, [], _++_}
 use mathlib.Core.Bool.{Bool, true, false, cond}
 use Prim.Native.Nat.{ℕ}
-use lib.Dec.{eqb, ltb}
+use lib.Dec.{ltb}
 use lib.ListN.{length}
-use lib.IntN.{ℤ, pos, negsuc}
+use lib.IntN.{ℤ}
 use Rattle.cluster.specs.declared.Cluster.{Cluster}
 use Rattle.cluster.specs.Servers.{zeroCluster}
 use Rattle.steps.specs.declared.Answer.{Answer}
 use Rattle.steps.specs.declared.Answer.the-variants as A
-use Rattle.replay.specs.Pieces.{together}
+use Rattle.lines.specs.Texts.{together}
 use Rattle.saved.specs.Written.{longest}
 use Rattle.shapes.specs.declared.Shape.{Shape}
 use Rattle.shapes.specs.Walk.{walked}
 use Rattle.loads.specs.Loads.{loadOf}
-use Rattle.shell.specs.declared.End.the-variants.{More}
+use Rattle.lines.specs.declared.End.{End}
+use Rattle.lines.specs.declared.End.the-variants.{More, Input, CannotRead, CannotWrite}
 use Rattle.shell.specs.declared.saves.Walked.{Walked}
 use Rattle.shell.specs.declared.saves.Led.{Led}
-use Rattle.shell.specs.Loop.{mostTurns, endOf, given}
+use Rattle.lines.specs.Turns.{mostTurns, endOf, given}
 
--- whether anything came, by what a read answered and whether anything came before
-unfoldable pub cameBy : ℤ → Bool → Bool
-cameBy (pos n) before = cond (eqb n 0) before true
-cameBy (negsuc n) before = before
+-- whether anything came, by how the turn ends and whether anything came before
+abbrev pub cameBy : End → Bool → Bool
+cameBy More before = true
+cameBy Input before = before
+cameBy CannotRead before = before
+cameBy CannotWrite before = before
 
 -- one turn: every byte that was given is walked on from the shape before
 unfoldable pub turnWalked : Walked → List ℕ → ℤ → Walked
-turnWalked w buffer got = record { shape = walked (w .shape) (given got buffer); came = cameBy got (w .came); end = endOf got true }
+turnWalked w buffer got = record { shape = walked (w .shape) (given got buffer); came = cameBy (endOf got true) (w .came); end = endOf got true }
 
 -- all turns: the shape is walked through pieces, of which none has a byte where nothing came, and it stopped for what the last read
 -- answered; it gives up with more to read only after so many turns as nobody lives to see

@@ -2,15 +2,15 @@
 // words of a refusal that is decided before, so it is tested and not proved.
 use clock::Time;
 use cluster::Head;
+use lines::LINE_FEED;
 use loads::BYTES;
-use loads::ENTRY;
-use loads::FIRST;
-use loads::NOTE;
 use loads::PRIMARY;
-use loads::SERVER;
 use log::Entry;
 use mail::Report;
-use replay::LINE_FEED;
+use saved::ENTRY;
+use saved::FIRST;
+use saved::NOTE;
+use saved::SERVER;
 
 // What a server frame says that no server's does, in the order of its fields.
 pub(crate) enum OfServer {

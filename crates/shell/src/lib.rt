@@ -9,26 +9,20 @@ ghost use mathlib.Core.Path.{_≡_};
 ghost use mathlib.Core.Bool.{false};
 ghost use Prim.Native.Nat.{_≤_, _*_};
 ghost use lib.ListN.{length};
-ghost use Rattle.replay.specs.Pieces.{answerLine, says, placed};
-ghost use Rattle.shell.specs.Loop.{mostPiece, closedBy, finishedBy, Poured, Turned, Drains, Finishes, Answered};
+ghost use Rattle.lines.specs.Texts.{placed};
+ghost use Rattle.replay.specs.Pieces.{answerLine, says};
+ghost use Rattle.lines.specs.Turns.{mostPiece};
+ghost use Rattle.shell.specs.Loop.{closedBy, finishedBy, Poured, Turned, Drains, Finishes, Answered};
 use cluster::Cluster;
 use libc::STDIN_FILENO;
 use libc::STDOUT_FILENO;
+use lines::End;
+use lines::PIECE;
 use replay::Session;
 use saves::Led;
 
-// How many bytes are read at once, and room for their answers even where every byte is a line.
-const PIECE: usize = 16384;
-
+// Room for the answers to all that is read at once, even where every byte is a line.
 const ROOM: usize = PIECE * replay::ANSWER_LINE;
-
-// How a turn ended: there may be more to read, or it is over for one of three reasons.
-pub enum End {
-    More,
-    Input,
-    CannotRead,
-    CannotWrite,
-}
 
 pub struct Drained {
     pub session: Session,
@@ -65,7 +59,7 @@ fn pour(s: Session, piece: &[u8], out: &mut [u8]) -> Drained
     ensures result { λ r. ⌜ Poured s (now (piece .entry)) r ⌝ }
     ensures output { λ _. ⌜ now (out .exit) ≡ placed (now (out .entry)) 0 (says s (now (piece .entry))) ⌝ }
 {
-    let f = replay::feed(s, piece, out);
+    let f = replay::pour(s, piece, out);
     let d = f.session;
     closed(d, write_first(STDOUT_FILENO, out, f.wrote))
 }
@@ -137,7 +131,7 @@ fn ended(s: Session, out: &mut [u8]) -> Led
     requires { ⌜ answerLine ≤ length (now out) ⌝ }
     ensures { λ r. ⌜ Finishes s r ⌝ }
 {
-    let f = replay::finish(s, out);
+    let f = replay::close(s, out);
     let d = f.session;
     let c = d.cluster;
     finished(c, write_first(STDOUT_FILENO, out, f.wrote))

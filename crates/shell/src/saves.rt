@@ -1,12 +1,12 @@
 // A saved record, read from one descriptor and written to another. The launcher opens both.
 ghost use mathlib.Core.Path.{_≡_};
 ghost use Rattle.shell.specs.Saving.{turnWalked, WalksOn, notLed, ledOf, Loads};
-use crate::End;
-use crate::PIECE;
 use crate::faults;
 use crate::say;
 use crate::tell;
 use cluster::Cluster;
+use lines::End;
+use lines::PIECE;
 use saved::Saved;
 use shapes::Shape;
 use steps::Answer;

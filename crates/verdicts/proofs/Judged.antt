@@ -12,9 +12,10 @@ use Rattle.log.specs.Logs.{live}
 use Rattle.cluster.specs.declared.Cluster.{Cluster}
 use Rattle.cluster.specs.Servers.{zeroCluster}
 use Rattle.frames.specs.Steps.{readStep}
-use Rattle.replay.specs.Texts.{lines, answerTo, recordAfter, recordsOn}
-use Rattle.replay.specs.Folds.{overLines}
-use Rattle.replay.proofs.Folded.{lines-append}
+use Rattle.lines.specs.Texts.{lines}
+use Rattle.replay.specs.Texts.{answerTo, recordAfter, recordsOn}
+use Rattle.lines.specs.Folds.{overLines}
+use Rattle.lines.proofs.Folded.{lines-append}
 use Rattle.histories.specs.declared.PhoneRecord.{PhoneRecord}
 use Rattle.histories.specs.declared.Checked.{Checked}
 use Rattle.histories.specs.Checking.{checkOf}

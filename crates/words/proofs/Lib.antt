@@ -1,5 +1,4 @@
--- Laws of numbers of two bytes, of lines of so many bytes and of a line that is being read. Assumes nothing.
+-- Laws of numbers of two bytes and of lines of so many bytes. Assumes nothing.
 pub mod Bytes
 pub mod Framed
-pub mod Held
 pub mod Results

@@ -1,3 +1,2 @@
--- Numbers of two bytes, lines of so many bytes, and a line that is being read. Assumes nothing.
+-- Numbers of two bytes, and lines of so many bytes. Assumes nothing.
 pub mod Words
-pub mod Held

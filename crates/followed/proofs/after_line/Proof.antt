@@ -17,8 +17,8 @@ empty-log-requires c κs = search needs
 longer-requires : tie.Need-longer-requires
 longer-requires c κs = search needs
 
-starts-after-requires : tie.Need-starts-after-requires
-starts-after-requires c κs = search needs
+one-more-requires : tie.Need-one-more-requires
+one-more-requires c κs = search needs
 
 returns : tie.Need-returns
 returns c =
@@ -26,7 +26,7 @@ returns c =
     let b = f .before .before in
     let o = b .before .before in
     after-start (o .before .before .args .r) _ (o .respond-to .result) _ (o .respond-to .ensures) _ _ (sym (b .begins .ensures) ∙ f .before .if1 .taken) (f .empty-log .ensures)
-    (c .before .longer .ensures) (c .starts-after .ensures)
+    (c .before .longer .ensures) (c .one-more .ensures)
 
 longer-requires-2 : tie.Need-longer-requires-2
 longer-requires-2 c κs = search needs
@@ -45,7 +45,7 @@ after-line-spec =
     begins-requires
     empty-log-requires
     longer-requires
-    starts-after-requires
+    one-more-requires
     returns
     longer-requires-2
     returns-2)

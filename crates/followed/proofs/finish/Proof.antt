@@ -1,7 +1,7 @@
 -- `followed::finish` meets its contract. Assumes nothing.
 use mathlib.Core.Path.{sym, ap, _∙_}
 use Rattle.followed.specs.Follow.{runAfterRead}
-use Rattle.replay.specs.Folds.{atEnd}
+use Rattle.lines.specs.Folds.{atEnd}
 use borrow.Author.Needs.{needs}
 use Rattle.followed.proofs.finish.Statement.{statement}
 use Rattle.followed.proofs.finish.Tie as tie

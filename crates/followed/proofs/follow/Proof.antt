@@ -1,10 +1,12 @@
 -- `followed::follow` meets its contract. Assumes nothing.
-use mathlib.Core.Path.{ap, _∙_}
+use mathlib.Core.Path.{_≡_, ap, _∙_}
+use mathlib.Core.Logic.{⊎-elim}
 use Prim.Native.Nat.{_≤_, _-_}
 use native.Mathlib.Omega.{arith}
-use lib.ListN.{length}
+use lib.ListN.{length, getD}
 use borrow.Author.Needs.{needs}
-use Rattle.replay.proofs.Folded.{Upto, upto-none, upto-feed, upto-character, upto-all}
+use Rattle.lines.specs.Folds.{byteAfter}
+use Rattle.lines.proofs.Folded.{Upto, upto-none, upto-byte, upto-all, by-feed, by-character}
 use Rattle.followed.specs.Follow.{runAfterRead, runAfterLine}
 use Rattle.followed.proofs.follow.Statement.{statement}
 use Rattle.followed.proofs.follow.Tie as tie
@@ -24,34 +26,27 @@ shared-slice-read-b c = search needs
 add-i : tie.Need-add-i Inv-loop μ-loop
 add-i c = search needs
 
-pushed-requires : tie.Need-pushed-requires Inv-loop μ-loop
-pushed-requires c κs = search needs
-
-loop-less : tie.Need-loop-less Inv-loop μ-loop
-loop-less c = search needs
-
-loop-again : tie.Need-loop-again Inv-loop μ-loop
-loop-again c = let l = c .before .before .before .before .loop in (search needs, upto-character runAfterLine (l .inv .1) _ (omega arith) (c .before .if1 .taken) (c .pushed .ensures))
-
 step-held-requires : tie.Need-step-held-requires Inv-loop μ-loop
 step-held-requires c κs = search needs
 
 after-line-requires : tie.Need-after-line-requires Inv-loop μ-loop
 after-line-requires c κs = search needs
 
-fresh-reader-requires : tie.Need-fresh-reader-requires Inv-loop μ-loop
-fresh-reader-requires c κs = search needs
+taken-requires : tie.Need-taken-requires Inv-loop μ-loop
+taken-requires c κs = search needs
 
-loop-less-2 : tie.Need-loop-less-2 Inv-loop μ-loop
-loop-less-2 c = search needs
+loop-less : tie.Need-loop-less Inv-loop μ-loop
+loop-less c = search needs
 
-loop-again-2 : tie.Need-loop-again-2 Inv-loop μ-loop
-loop-again-2 c =
-    let l = c .before .before .before .before .before .before .loop in (
-      search needs,
-      upto-feed runAfterLine (l .inv .1) _ _ (omega arith) (c .before .before .before .if1 .left) (c .before .after-line .ensures ∙ ap (runAfterRead (l .run)) (c .before .before .step-held .ensures))
-          (c .fresh-reader .ensures),
-    )
+loop-again : tie.Need-loop-again Inv-loop μ-loop
+loop-again c =
+    let m = c .before in
+    let l = m .before .before .before .loop in
+    let b = getD (m .before .before .before .before .before .before .before .args .piece .now) (l .i) 0 in
+    let after : m .if1 .run ≡ byteAfter runAfterLine (l .run) (l .reader) b =
+    ⊎-elim (λ w. w .3 ∙ w .2 .ensures ∙ ap (runAfterRead (l .run)) (w .1 .ensures) ∙ by-feed runAfterLine (l .run) (l .reader) b (w .0 .taken))
+    (λ w. w .1 ∙ by-character runAfterLine (l .run) (l .reader) b (w .0 .left)) (m .if1 .came) in
+    (search needs, upto-byte runAfterLine (l .inv .1) _ _ (omega arith) after (c .taken .ensures))
 
 returns : tie.Need-returns Inv-loop μ-loop
 returns c = let u = upto-all runAfterLine (c .before .loop .inv .1) (omega arith) in rw (u .0, u .1)
@@ -65,12 +60,9 @@ follow-spec =
     loop-holds
     shared-slice-read-b
     add-i
-    pushed-requires
-    loop-less
-    loop-again
     step-held-requires
     after-line-requires
-    fresh-reader-requires
-    loop-less-2
-    loop-again-2
+    taken-requires
+    loop-less
+    loop-again
     returns)

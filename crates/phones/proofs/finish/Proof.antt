@@ -1,7 +1,7 @@
 -- `phones::finish` meets its contract. Assumes nothing.
 use mathlib.Core.Path.{sym, ap, _∙_}
 use Rattle.phones.specs.Listed.{listAfterRead}
-use Rattle.replay.specs.Folds.{atEnd}
+use Rattle.lines.specs.Folds.{atEnd}
 use borrow.Author.Needs.{needs}
 use Rattle.phones.proofs.finish.Statement.{statement}
 use Rattle.phones.proofs.finish.Tie as tie

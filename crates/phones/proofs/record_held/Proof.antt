@@ -6,9 +6,9 @@ use native.Mathlib.Omega.{arith}
 use lib.ListN.{length, take}
 use lib.Seq.{length-take-le}
 use Rattle.base.proofs.Facts.{mapped-long}
-use Rattle.words.proofs.Held.{held-over, held-short, held-within}
-use Rattle.replay.specs.declared.Reader.{Reader}
-use Rattle.replay.specs.Pieces.{kept, lineHeld}
+use Rattle.lines.proofs.Held.{held-over, held-short, held-within}
+use Rattle.lines.specs.declared.Reader.{Reader}
+use Rattle.lines.specs.Readers.{width, lineHeld}
 use Rattle.phones.specs.declared.ReadRecord.the-variants.{NoRecord}
 use Rattle.phones.specs.Records.{recordBytes, recordOf, readRecord}
 use borrow.Author.Needs.{needs}
@@ -18,20 +18,20 @@ use Rattle.phones.proofs.record_held.Tie as tie
 -- a line of a record's length is read as it stands
 whole : (r : Reader) → r .over ≡ false → r .fill ≡ 24 → take 24 (r .held) ≡ lineHeld r
 unfolding lineHeld
-whole r e h = ap (λ (k : ℕ). take k (r .held)) (sym h) ∙ held-within kept (r .held) (r .fill) (r .over) e (omega arith)
+whole r e h = ap (λ (k : ℕ). take k (r .held)) (sym h) ∙ held-within width (r .held) (r .fill) (r .over) e (omega arith)
 
-slots : (c : tie.Start) → length (c .args .r .held) ≡ kept
+slots : (c : tie.Start) → length (c .args .r .held) ≡ width
 slots c = search (needs, mapped-long)
 
 returns : tie.Need-returns
 unfolding lineHeld
-returns c = let r = c .before .args .r in held-over recordBytes recordOf NoRecord kept (omega arith) (r .held) (r .fill) (r .over) (c .if1 .taken)
+returns c = let r = c .before .args .r in held-over recordBytes recordOf NoRecord width (omega arith) (r .held) (r .fill) (r .over) (c .if1 .taken)
 
 returns-2 : tie.Need-returns-2
 unfolding lineHeld
 returns-2 c =
     let r = c .before .before .before .args .r in
-    held-short recordBytes recordOf NoRecord kept (omega arith) (r .held) (r .fill) (r .over) (search (needs, mapped-long)) (c .before .before .if1 .left) (c .if2 .taken)
+    held-short recordBytes recordOf NoRecord width (omega arith) (r .held) (r .fill) (r .over) (search (needs, mapped-long)) (c .before .before .if1 .left) (c .if2 .taken)
 
 array-share-prefix-held : tie.Need-array-share-prefix-held
 array-share-prefix-held c = omega (arith, slots (c .before .before .before .before))

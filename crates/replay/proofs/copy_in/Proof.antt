@@ -7,7 +7,7 @@ use native.Mathlib.Numerals.{add-one}
 use native.Mathlib.Omega.{arith}
 use lib.ListN.{length, getD, set, take, drop, length-set}
 use lib.Seq.{paste, paste-zero, paste-suc, take-length}
-use Rattle.replay.specs.Pieces.{placed}
+use Rattle.lines.specs.Texts.{placed}
 use Rattle.replay.proofs.copy_in.Statement.{statement}
 use Rattle.replay.proofs.copy_in.Tie as tie
 

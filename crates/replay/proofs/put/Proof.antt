@@ -9,9 +9,10 @@ use Rattle.answers.specs.Answers.{answerBytes, writeAnswer}
 use Rattle.answers.proofs.Lengths.{answer-line-length}
 use Rattle.steps.specs.Answers.{tellingOf}
 use Rattle.hex.specs.Lines.{chars}
-use Rattle.replay.specs.Pieces.{answerLine, placed}
-use Rattle.replay.specs.Texts.{lineFeed, lineOf}
-use Rattle.replay.proofs.Placed.{placed-set}
+use Rattle.lines.specs.Texts.{placed, lineFeed}
+use Rattle.replay.specs.Pieces.{answerLine}
+use Rattle.replay.specs.Texts.{lineOf}
+use Rattle.lines.proofs.Placed.{placed-set}
 use borrow.Author.Needs.{needs}
 use Rattle.replay.proofs.put.Statement.{statement}
 use Rattle.replay.proofs.put.Tie as tie

@@ -1,11 +1,11 @@
 -- `replay::step_held` meets its contract. Assumes nothing.
 use Rattle.base.proofs.Facts.{mapped-long}
-use Rattle.words.proofs.Held.{held-over, held-short, held-within}
+use Rattle.lines.proofs.Held.{held-over, held-short, held-within}
 use Rattle.frames.specs.declared.ReadStep.the-variants.{NoFrame}
 use Rattle.frames.specs.Layout.{stepBytes}
 use Rattle.frames.specs.Steps.{stepIn, readStep}
-use Rattle.replay.specs.declared.Reader.{Reader}
-use Rattle.replay.specs.Pieces.{kept, lineHeld}
+use Rattle.lines.specs.declared.Reader.{Reader}
+use Rattle.lines.specs.Readers.{width, lineHeld}
 use mathlib.Core.Path.{_≡_, sym, ap, _∙_}
 use mathlib.Core.Bool.{false}
 use native.Mathlib.Omega.{arith}
@@ -16,19 +16,19 @@ use Rattle.replay.proofs.step_held.Statement.{statement}
 use Rattle.replay.proofs.step_held.Tie as tie
 
 -- a whole frame is read as it stands
-whole : (r : Reader) → length (r .held) ≡ kept → r .over ≡ false → r .fill ≡ kept → r .held ≡ lineHeld r
+whole : (r : Reader) → length (r .held) ≡ width → r .over ≡ false → r .fill ≡ width → r .held ≡ lineHeld r
 unfolding lineHeld
-whole r l e h = sym (take-all (r .fill) (r .held) (omega arith)) ∙ held-within kept (r .held) (r .fill) (r .over) e (omega arith)
+whole r l e h = sym (take-all (r .fill) (r .held) (omega arith)) ∙ held-within width (r .held) (r .fill) (r .over) e (omega arith)
 
 returns : tie.Need-returns
 unfolding lineHeld
-returns c = let r = c .before .args .r in held-over stepBytes stepIn NoFrame kept (omega arith) (r .held) (r .fill) (r .over) (c .if1 .taken)
+returns c = let r = c .before .args .r in held-over stepBytes stepIn NoFrame width (omega arith) (r .held) (r .fill) (r .over) (c .if1 .taken)
 
 returns-2 : tie.Need-returns-2
 unfolding lineHeld
 returns-2 c =
     let r = c .before .before .before .args .r in
-    held-short stepBytes stepIn NoFrame kept (omega arith) (r .held) (r .fill) (r .over) (search (needs, mapped-long)) (c .before .before .if1 .left) (c .if2 .taken)
+    held-short stepBytes stepIn NoFrame width (omega arith) (r .held) (r .fill) (r .over) (search (needs, mapped-long)) (c .before .before .if1 .left) (c .if2 .taken)
 
 read-frame-requires : tie.Need-read-frame-requires
 read-frame-requires c κs = search needs

@@ -9,9 +9,8 @@ use borrow.Rule.Slice.PartMut.{midOf, putMid, post-is}
 use Rattle.hex.specs.Lines.{chars, hexOf, over}
 use Rattle.hex.proofs.Places.{hex-length}
 use Rattle.hex.proofs.Trips.{over-all}
-use Rattle.replay.specs.Pieces.{placed}
-use Rattle.replay.specs.Texts.{lineFeed}
-use Rattle.replay.proofs.Placed.{placed-length, placed-set}
+use Rattle.lines.specs.Texts.{placed, lineFeed}
+use Rattle.lines.proofs.Placed.{placed-length, placed-set}
 use Rattle.saved.specs.Saved.{textOf}
 use Rattle.saved.specs.Written.{Written}
 use Rattle.saved.proofs.Texts.{text-length}

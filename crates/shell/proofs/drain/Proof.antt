@@ -3,7 +3,8 @@ use native.Mathlib.Omega.{arith}
 use lib.ListN.{length}
 use mathlib.Core.Path.{_≡_, refl}
 use borrow.Author.Needs.{needs}
-use Rattle.shell.proofs.Loop.{over, Going, begins, goes-on, stops, gives-up-at}
+use Rattle.lines.proofs.Turns.{over}
+use Rattle.shell.proofs.Loop.{Going, begins, goes-on, stops, gives-up-at}
 use Rattle.shell.proofs.drain.Statement.{statement}
 use Rattle.shell.proofs.drain.Tie as tie
 

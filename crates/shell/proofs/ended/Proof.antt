@@ -4,8 +4,8 @@ use Rattle.shell.proofs.Loop.{finishes}
 use Rattle.shell.proofs.ended.Statement.{statement}
 use Rattle.shell.proofs.ended.Tie as tie
 
-finish-requires : tie.Need-finish-requires
-finish-requires c κs = search needs
+close-requires : tie.Need-close-requires
+close-requires c κs = search needs
 
 write-first-requires : tie.Need-write-first-requires
 write-first-requires c κs = search needs
@@ -19,7 +19,7 @@ same-length c = search needs
 returns : tie.Need-returns
 returns c =
     let finished = c .before .before .before .before .before .before .before in
-    finishes _ _ _ _ _ (finished .before .before .before .pre) (finished .finish .ensures .0) (c .finished .ensures)
+    finishes _ _ _ _ _ (finished .before .before .before .pre) (finished .close .ensures .0) (c .finished .ensures)
 
 pub ended-spec : {M : Type 1} → statement M
-ended-spec = tie.close (tie.spec finish-requires write-first-requires finished-requires same-length returns)
+ended-spec = tie.close (tie.spec close-requires write-first-requires finished-requires same-length returns)

@@ -25,7 +25,7 @@ same-length c = search needs
 returns-3 : tie.Need-returns-3
 returns-3 c =
     let counted = c .before .before .before .before .before in
-    turned-piece _ _ _ _ _ (counted .before .before .before .before .before .fits .got) (counted .before .before .if1 .left)
+    turned-piece _ _ _ (counted .before .before .before .before .before .fits .got) _ _ (counted .before .before .if1 .left)
     (counted .before .if2 .left) (counted .count .ensures .1) (c .before .before .pour .ensures .0)
 
 pub turn-spec : {M : Type 1} → statement M

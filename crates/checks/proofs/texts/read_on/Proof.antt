@@ -1,6 +1,6 @@
 -- `checks::texts::read_on` meets its contract. Assumes nothing.
 use borrow.Author.Needs.{needs}
-use Rattle.shell.proofs.Loop.{over}
+use Rattle.lines.proofs.Turns.{over}
 use Rattle.checks.proofs.Turns.{Going, begins, goes-on, stops, gives-up}
 use Rattle.checks.proofs.texts.read_on.Statement.{statement}
 use Rattle.checks.proofs.texts.read_on.Tie as tie

@@ -1,5 +1,5 @@
 -- `shell::saves::walk_on` meets its contract. Its loop keeps the pieces that the shape is walked through. Assumes nothing.
-use Rattle.shell.proofs.Loop.{over}
+use Rattle.lines.proofs.Turns.{over}
 use Rattle.shell.proofs.Saving.{Walking, walk-begins, walk-goes-on, walk-stops, walk-gives-up}
 use borrow.Author.Needs.{needs}
 use Rattle.shell.proofs.saves.walk_on.Statement.{statement}

@@ -22,7 +22,7 @@ walk-requires c κs = search needs
 returns-3 : tie.Need-returns-3
 returns-3 c =
     let counted = c .before .before .before in
-    walked-piece _ _ _ _ _ (counted .before .before .before .before .fits .got) (counted .before .before .if1 .left)
+    walked-piece _ _ _ (counted .before .before .before .before .fits .got) _ _ (counted .before .before .if1 .left)
     (counted .before .if2 .left) (counted .count .ensures .1) (c .walk .ensures)
 
 pub walk-turn-spec : {M : Type 1} → statement M
