@@ -29,7 +29,7 @@ use Rattle.lines.specs.Texts.{lineFeed, placed}
 use Rattle.replay.specs.Texts.{respond, answerTo, lineOf}
 use Rattle.lines.specs.Readers.{width, freshReader, lineHeld, isEmpty, readerAfter}
 use Rattle.replay.specs.Pieces.{stepChars, answerLine, begun, cameWhole, byteIs, wholeLine, nextBy, nextOf}
-use Rattle.lines.proofs.Readers.{StandsFor, after-feed, character-holds, slots-kept}
+use Rattle.lines.proofs.Readers.{StandsFor, after-feed, character-holds}
 use Rattle.replay.proofs.Whole.{held-answer}
 use Rattle.replay.proofs.Along.{Along, by-line, by-byte}
 
@@ -83,24 +83,23 @@ module _ (r : Reader) (text : List ℕ) (at : ℕ) where
   unfolding nextBy
   next-whole s n e p = p ∙ sym (ap (λ (x : ReadStep). nextBy x r (getD text at 0)) e)
 
-  pub next-byte : (q : Reader) (k : Came) → wholeLine r text at ≡ NoFrame → q ≡ readerAfter r (getD text at 0) → k ≡ byteIs r (getD text at 0)
-      → _≡_ {A = Next} (record { reader = q; took = 1; came = k }) (nextOf r text at)
+  pub next-byte : (k : Came) → wholeLine r text at ≡ NoFrame → k ≡ byteIs r (getD text at 0)
+      → _≡_ {A = Next} (record { came = k; took = 1; last = getD text at 0 }) (nextOf r text at)
   unfolding nextBy
-  next-byte q k e p c = rw e (λ i. record { reader = p i; took = 1; came = c i })
+  next-byte k e c = rw e (λ i. record { came = c i; took = 1; last = getD text at 0 })
 
--- it takes at least a byte, and none past the end; the reader keeps its slots
+-- it takes at least a byte, and none past the end
 pub record Moved (text : List ℕ) (at : ℕ) (n : Next) : Type 0 where
   pub some : 0 < n .took
   pub inside : at + n .took ≤ length text
-  pub slots : length (n .reader .held) ≡ width
 
-pub moved : (r : Reader) (text : List ℕ) (at : ℕ) (n : Next) → at < length text → length (r .held) ≡ width → n ≡ nextOf r text at → Moved text at n
+pub moved : (r : Reader) (text : List ℕ) (at : ℕ) (n : Next) → at < length text → n ≡ nextOf r text at → Moved text at n
 unfolding nextBy
-moved r text at n h k e = subst (Moved text at) (sym e) (go (wholeLine r text at) refl)
+moved r text at n h e = subst (Moved text at) (sym e) (go (wholeLine r text at) refl)
   where
     go : (x : ReadStep) → wholeLine r text at ≡ x → Moved text at (nextBy x r (getD text at 0))
-    go (Step s) y = let l = whole-there r text at s y .inside in record { some = omega arith; inside = omega arith; slots = refl }
-    go NoFrame y = record { some = omega arith; inside = omega arith; slots = slots-kept r (getD text at 0) k }
+    go (Step s) y = let l = whole-there r text at s y .inside in record { some = omega arith; inside = omega arith }
+    go NoFrame y = record { some = omega arith; inside = omega arith }
 
 -- what a byte is, by what came
 is-line : (r : Reader) (b : ℕ) (read : ReadStep) → byteIs r b ≡ Line read → (b ≡ lineFeed) × (read ≡ readStep (lineHeld r))
@@ -116,15 +115,13 @@ unfolding byteIs
 is-character r b p e = let q = rw (eq-eqb b lineFeed e) at p in let z : _≡_ {A = ℕ} 0 1 = cc in omega arith
 
 -- after a line the reader is fresh
-pub line-fresh : (r : Reader) (text : List ℕ) (at : ℕ) (n : Next) (read : ReadStep) → n ≡ nextOf r text at → n .came ≡ Line read → n .reader ≡ freshReader
+pub line-fresh : (r q : Reader) (text : List ℕ) (at : ℕ) (n : Next) (read : ReadStep) → n ≡ nextOf r text at → n .came ≡ Line read → q ≡ readerAfter r (n .last) → q ≡ freshReader
 unfolding nextBy
-line-fresh r text at n read e k = go (wholeLine r text at) e
+line-fresh r q text at n read e k f = f ∙ after-feed r (n .last) (go (wholeLine r text at) e)
   where
-    go : (x : ReadStep) → n ≡ nextBy x r (getD text at 0) → n .reader ≡ freshReader
-    go (Step s) p = ap (λ (m : Next). m .reader) p
-    go NoFrame p =
-        let f = is-line r (getD text at 0) read (sym (ap (λ (m : Next). m .came) p) ∙ k) in
-        ap (λ (m : Next). m .reader) p ∙ after-feed r (getD text at 0) (f .0)
+    go : (x : ReadStep) → n ≡ nextBy x r (getD text at 0) → n .last ≡ lineFeed
+    go (Step s) p = ap (λ (m : Next). m .last) p
+    go NoFrame p = ap (λ (m : Next). m .last) p ∙ is-line r (getD text at 0) read (sym (ap (λ (m : Next). m .came) p) ∙ k) .0
 
 -- ---- the bytes of a frame, one by one
 
@@ -196,15 +193,16 @@ module _ {s : Session} {text out₀ out : List ℕ} {c : Cluster} {r : Reader} {
       (p ∙ ap (respond c) (sym (there .reads))) b o′)
 
   -- a character
-  pub by-character : (n : Next) → n ≡ nextOf r text i → n .came ≡ Character → Along s text out₀ out (record { cluster = c; reader = n .reader }) w (i + n .took)
+  pub by-character : (n : Next) (q : Reader) → n ≡ nextOf r text i → n .came ≡ Character → q ≡ readerAfter r (n .last)
+      → Along s text out₀ out (record { cluster = c; reader = q }) w (i + n .took)
   unfolding nextBy
-  by-character n e k = go (wholeLine r text i) e
+  by-character n q e k f = go (wholeLine r text i) e
     where
-      go : (x : ReadStep) → n ≡ nextBy x r (getD text i 0) → Along s text out₀ out (record { cluster = c; reader = n .reader }) w (i + n .took)
+      go : (x : ReadStep) → n ≡ nextBy x r (getD text i 0) → Along s text out₀ out (record { cluster = c; reader = q }) w (i + n .took)
       go (Step t) p = let z : Line (Step t) ≡ Character = sym (ap (λ (m : Next). m .came) p) ∙ k in let y : _≡_ {A = ℕ} 0 1 = cc in absurd (omega arith)
       go NoFrame p =
-          subst (λ (m : Next). Along s text out₀ out (record { cluster = c; reader = m .reader }) w (i + m .took)) (sym p)
-          (by-byte (readerAfter r (getD text i 0)) a h room (is-character r (getD text i 0) (sym (ap (λ (m : Next). m .came) p) ∙ k)) refl)
+          subst (λ (m : ℕ). Along s text out₀ out (record { cluster = c; reader = q }) w (i + m)) (sym (ap (λ (m : Next). m .took) p))
+          (by-byte q a h room (is-character r (getD text i 0) (sym (ap (λ (m : Next). m .came) p) ∙ k)) (f ∙ ap (λ (m : Next). readerAfter r (m .last)) p))
 
   -- a line, whole or at its line feed
   pub by-came : (n : Next) (read : ReadStep) (o : Outcome) (e : Session) (out′ : List ℕ) → n ≡ nextOf r text i → n .came ≡ Line read → o ≡ respond c read

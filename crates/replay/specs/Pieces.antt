@@ -43,7 +43,7 @@ wholeLine r text at =
 
 -- a whole step line came; or what one byte is: the end of the line that was read, or a character of it
 abbrev pub cameWhole : AnyStep → Next
-cameWhole s = record { reader = freshReader; took = stepChars + 1; came = Line (Step s) }
+cameWhole s = record { came = Line (Step s); took = stepChars + 1; last = lineFeed }
 
 unfoldable pub byteIs : Reader → ℕ → Came
 byteIs r b = cond (eqb b lineFeed) (Line (readStep (lineHeld r))) Character
@@ -51,7 +51,7 @@ byteIs r b = cond (eqb b lineFeed) (Line (readStep (lineHeld r))) Character
 -- what a text has next from a place on: a whole step line, or else one byte
 unfoldable pub nextBy : ReadStep → Reader → ℕ → Next
 nextBy (Step s) r b = cameWhole s
-nextBy NoFrame r b = record { reader = readerAfter r b; took = 1; came = byteIs r b }
+nextBy NoFrame r b = record { came = byteIs r b; took = 1; last = b }
 
 abbrev pub nextOf : Reader → List ℕ → ℕ → Next
 nextOf r text at = nextBy (wholeLine r text at) r (getD text at 0)

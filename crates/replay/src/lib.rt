@@ -44,11 +44,11 @@ pub enum Came {
     Character,
 }
 
-// What came, how many bytes of the text it took, and the reader then.
+// What came, how many bytes of the text it took, and the last of these, which the reader takes.
 pub struct Next {
-    pub reader: Reader,
-    pub took: usize,
     pub came: Came,
+    pub took: usize,
+    pub last: u8,
 }
 
 // What a line is to do to the record: refuse, step one server that looks at another, or step the whole record.
@@ -83,14 +83,14 @@ pub fn step_held(r: Reader) -> ReadStep
     frames::read_frame(b)
 }
 
-// A whole step line came, so the reader is fresh.
+// A whole step line came.
 fn came_whole(s: Step) -> Next
     ensures { λ q. ⌜ q ≡ cameWhole s ⌝ }
 {
     Next {
-        reader: lines::fresh_reader(),
-        took: frames::STEP_CHARS + 1,
         came: Came::Line(ReadStep::Step(s)),
+        took: frames::STEP_CHARS + 1,
+        last: LINE_FEED,
     }
 }
 
@@ -133,9 +133,9 @@ fn take_next(r: Reader, text: &[u8], at: usize) -> Next
     }
     let b = text[at];
     Next {
-        reader: lines::taken(r, b),
-        took: 1,
         came: byte_is(r, b),
+        took: 1,
+        last: b,
     }
 }
 
@@ -253,8 +253,7 @@ fn feed_by(from: Cluster, reader: Reader, text: &[u8], out: &mut [u8]) -> Fed
     while i < text.len() && ANSWER_LINE <= out.len() - w {
         let n = take_next(r, text, i);
         i += n.took;
-        let q = n.reader;
-        r = q;
+        r = lines::taken(r, n.last);
         let came = n.came;
         let Came::Line(read) = came else {
             continue;

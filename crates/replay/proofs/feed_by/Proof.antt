@@ -9,7 +9,9 @@ use Rattle.base.proofs.Facts.{mapped-long}
 use Rattle.frames.specs.declared.ReadStep.{ReadStep}
 use mathlib.Core.Bool.{Bool}
 use Rattle.replay.specs.Plans.{planOf, carriedOut}
+use Rattle.lines.specs.declared.Reader.{Reader}
 use Rattle.lines.specs.Readers.{width}
+use Rattle.lines.proofs.Readers.{slots-kept}
 use Rattle.replay.specs.Pieces.{answerLine}
 use Rattle.replay.specs.Texts.{respond}
 use Rattle.steps.specs.declared.Outcome.{Outcome}
@@ -47,8 +49,12 @@ no-room : (c : tie.Else1 Inv-loop μ-loop) → length (c .before .before .before
 no-room c = let l = c .before .before .loop in omega (arith, leb-false answerLine (length (l .out) - l .w) (c .if1 .left), l .inv .0 .same)
 
 -- what came next takes a byte or more of the text
-taken : (c : tie.After-take-next Inv-loop μ-loop) → Moved (c .before .before .before .before .before .before .args .text .now) (c .before .before .before .loop .i) (c .take-next .result)
-taken c = let l = c .before .before .before .loop in moved (l .r) _ (l .i) _ (omega arith) (l .inv .1) (c .take-next .ensures)
+goes : (c : tie.After-take-next Inv-loop μ-loop) → Moved (c .before .before .before .before .before .before .args .text .now) (c .before .before .before .loop .i) (c .take-next .result)
+goes c = let l = c .before .before .before .loop in moved (l .r) _ (l .i) _ (omega arith) (c .take-next .ensures)
+
+-- the reader keeps its slots
+slots : (c : tie.After-taken Inv-loop μ-loop) → length (c .taken .result .held) ≡ width
+slots c = let l = c .before .before .before .before .before .loop in ap (λ (q : Reader). length (q .held)) (c .taken .ensures) ∙ slots-kept (l .r) _ (l .inv .1)
 
 -- the record when the line came
 abbrev before : tie.After-plan-for Inv-loop μ-loop → Cluster
@@ -104,7 +110,10 @@ take-next-requires : tie.Need-take-next-requires Inv-loop μ-loop
 take-next-requires c κs = search needs
 
 add-i : tie.Need-add-i Inv-loop μ-loop
-add-i c = let m = taken (c .before) in search needs
+add-i c = let m = goes (c .before) in search needs
+
+taken-requires : tie.Need-taken-requires Inv-loop μ-loop
+taken-requires c κs = search needs
 
 enum-known-came : tie.Need-enum-known-came Inv-loop μ-loop
 enum-known-came c = search needs
@@ -113,13 +122,16 @@ enum-told : tie.Need-enum-told Inv-loop μ-loop
 enum-told c = search needs
 
 loop-less : tie.Need-loop-less Inv-loop μ-loop
-loop-less c = let m = taken (c .before .before .before .before) in search needs
+loop-less c = let m = goes (c .before .before .before .before) in search needs
 
 loop-again : tie.Need-loop-again Inv-loop μ-loop
 loop-again c =
-    let n = c .before .before .before .before in
-    let l = n .before .before .before in
-    (by-character (l .loop .inv .0) (l .loop .inv .1) (omega arith) (room (n .before)) (n .take-next .result) (n .take-next .ensures) (c .enum-told .given .1), taken n .slots)
+    let t = c .before .before in
+    let n = t .before .before in
+    let l = n .before .before .before in (
+      by-character (l .loop .inv .0) (l .loop .inv .1) (omega arith) (room (n .before)) (n .take-next .result) _ (n .take-next .ensures) (c .enum-told .given .1) (t .taken .ensures),
+      slots t,
+    )
 
 server-count-requires : tie.Need-server-count-requires Inv-loop μ-loop
 server-count-requires c κs = search needs
@@ -170,17 +182,19 @@ add-w : tie.Need-add-w Inv-loop μ-loop
 add-w c = let h = room (c .before .before .before .before .before .before .before .before .before .before .before .before .before .before) in let k = out-fits (c .before .before .before .before .before .before .before .before .before .before .before .before .before .before .before .before .before .before .before) in search needs
 
 loop-less-2 : tie.Need-loop-less-2 Inv-loop μ-loop
-loop-less-2 c = let m = taken (c .before .before .before .before .before .before .before .before .before .before .before .before .before) in search needs
+loop-less-2 c = let m = goes (c .before .before .before .before .before .before .before .before .before .before .before .before .before) in search needs
 
 loop-again-2 : tie.Need-loop-again-2 Inv-loop μ-loop
 loop-again-2 c =
     let m = c .before .before .before .before in
-    let n = c .before .before .before .before .before .before .before .before .before .before .before .before .before in
-    let l = n .before .before .before in (
+    let came-so = m .before .before .before .before .before .came .given .1 in
+    let t = m .before .before .before .before .before .before .before in
+    let n = t .before .before in
+    let l = n .before .before .before in
+    let fresh = line-fresh (l .loop .r) (t .taken .result) _ (l .loop .i) _ _ (n .take-next .ensures) came-so (t .taken .ensures) in (
       by-came (l .loop .inv .0) (l .loop .inv .1) (omega arith) (room (n .before)) (n .take-next .result) (came (m .before)) (record { cluster = m .match2 .c; answer = m .match2 .answer }) _ _
-          (n .take-next .ensures) (m .before .before .before .before .before .came .given .1) (outcome m)
-          (λ i. record { cluster = m .match2 .c; reader = line-fresh (l .loop .r) _ (l .loop .i) _ _ (n .take-next .ensures) (m .before .before .before .before .before .came .given .1) i }) (c .before .before .put .ensures),
-      taken n .slots,
+          (n .take-next .ensures) came-so (outcome m) (λ i. record { cluster = m .match2 .c; reader = fresh i }) (c .before .before .put .ensures),
+      slots t,
     )
 
 so-far-requires : tie.Need-so-far-requires Inv-loop μ-loop
@@ -206,6 +220,7 @@ feed-by-spec =
     sub-if1
     take-next-requires
     add-i
+    taken-requires
     enum-known-came
     enum-told
     loop-less

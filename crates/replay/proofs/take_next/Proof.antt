@@ -23,14 +23,11 @@ enum-told c = search needs
 shared-slice-read-b : tie.Need-shared-slice-read-b
 shared-slice-read-b c = search needs
 
-taken-requires : tie.Need-taken-requires
-taken-requires c κs = search needs
-
 byte-is-requires : tie.Need-byte-is-requires
 byte-is-requires c κs = search needs
 
 returns-2 : tie.Need-returns-2
-returns-2 c = let w = c .before .before .before in next-byte _ _ _ _ _ (sym (w .before .before .whole-line .ensures) ∙ w .enum-told .given .1) (c .before .taken .ensures) (c .byte-is .ensures)
+returns-2 c = let w = c .before .before in next-byte _ _ _ _ (sym (w .before .before .whole-line .ensures) ∙ w .enum-told .given .1) (c .byte-is .ensures)
 
 pub take-next-spec : {M : Type 1} → statement M
 take-next-spec =
@@ -42,6 +39,5 @@ take-next-spec =
     returns
     enum-told
     shared-slice-read-b
-    taken-requires
     byte-is-requires
     returns-2)
