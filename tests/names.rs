@@ -16,10 +16,7 @@ const EDITIONS: &str = "## 3. The published editions";
 const PLACES: [&str; 6] = ["crates", "tests", ".ci", "docs", "samples", "bench"];
 const LAUNCHERS: [&str; 5] = ["replay", "check", "launch.sh", "crates.txt", "README.md"];
 /// Names that two files define, with why.
-const TWICE: [(&str, &str); 2] = [
-    ("mostLines", "a text's lines and a saved form's are counted alike, in rooms that have none below both"),
-    ("numberAfter", "likewise"),
-];
+const TWICE: [(&str, &str); 0] = [];
 
 fn main() -> ExitCode {
     let findings = words().and_then(|words| {
