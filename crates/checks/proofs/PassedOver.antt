@@ -14,7 +14,6 @@ use Rattle.frames.specs.declared.ReadStep.{ReadStep}
 use Rattle.frames.specs.declared.ReadStep.the-variants.{NoFrame}
 use Rattle.frames.specs.Layout.{stepBytes}
 use Rattle.frames.specs.Steps.{stepIn, readStep}
-use Rattle.lines.specs.declared.Reader.{Reader}
 use Rattle.lines.specs.Texts.{lineFeed, lines}
 use Rattle.lines.specs.Readers.{width, freshReader, lineHeld, pushOf, readerAfter}
 use Rattle.lines.specs.Folds.{overLines}
@@ -22,7 +21,7 @@ use Rattle.lines.proofs.Lines.{Plain, none, more, plain-snoc, line-first, line-
 use Rattle.lines.proofs.Readers.{StandsFor, fresh-holds, push-holds}
 use Rattle.checks.specs.declared.passed.Passed.{Passed}
 use Rattle.checks.specs.declared.passed.Passing.{Passing}
-use Rattle.checks.specs.Passing.{lastAfter, newPassed, passedAfterRead, passedAfterLine, passedOf, newPassing, heldEnded, afterByte, passedBy, finishedPassed}
+use Rattle.checks.specs.Passing.{lastAfter, passedAfterRead, passedAfterLine, passedOf, newPassing, heldEnded, afterByte, passedBy, finishedPassed}
 
 -- two pieces are passed like the text that they are
 pub passed-append : (p : Passing) (x y : List ℕ) → passedBy p (x ++ y) ≡ passedBy (passedBy p x) y

@@ -1,7 +1,6 @@
 // Both texts, each from its descriptor to its end: the step lines from standard input, and then the phones' records from the one that the
 // launcher opens. One loop does for both.
 ghost use mathlib.Core.Path.{_≡_};
-ghost use Rattle.lines.specs.Turns.{isInput};
 ghost use Rattle.checks.specs.Reading.{newTexts, takenBy, Turned, ReadOn, ReadsBoth};
 use crate::passed;
 use crate::passed::Passed;

@@ -1,6 +1,6 @@
 -- Nothing of a reader shows but the line that it stands for: two readers that stand for the same characters, whatever else is in them, lead to the
 -- same answers and the same record. Assumes nothing.
-use mathlib.Core.Path.{_≡_, refl, sym, ap, _∙_}
+use mathlib.Core.Path.{_≡_, sym, ap, _∙_}
 use mathlib.Core.Bool.{Bool, true, false, cond}
 use mathlib.Core.List.{List, [], _∷_, _++_}
 use Prim.Native.Nat.{ℕ}

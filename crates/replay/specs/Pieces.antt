@@ -1,7 +1,7 @@
 -- A text byte by byte: a reader that keeps at most one frame's characters, and what it says on the way. Nobody has to believe this:
 -- by `any-pieces` and `any-pieces-record` it comes to the answers and the record of `Texts`. Assumes nothing.
 use Prim.Native.Nat.{ℕ, suc, _+_, _-_, _*_}
-use mathlib.Core.Bool.{Bool, true, false, cond}
+use mathlib.Core.Bool.{true, false, cond}
 use mathlib.Core.List.{List, [], _∷_, _++_}
 use lib.Dec.{ltb, eqb}
 use lib.ListN.{length, getD, take, drop}

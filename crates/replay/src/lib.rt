@@ -4,7 +4,7 @@ ghost use Prim.Native.Nat.{_≤_, _<_, _+_};
 ghost use lib.ListN.{length};
 ghost use Rattle.frames.specs.Steps.{readStep};
 ghost use Rattle.replay.specs.Texts.{respond, lineOf};
-ghost use Rattle.lines.specs.Readers.{freshReader, lineHeld, pushOf, isEmpty};
+ghost use Rattle.lines.specs.Readers.{lineHeld};
 ghost use Rattle.lines.specs.Texts.{placed};
 ghost use Rattle.replay.specs.Pieces.{answerLine, begun, cameWhole, byteIs, wholeLine, nextOf, fedOf, fedOut, finishOf, finishOut};
 ghost use Rattle.replay.specs.Plans.{planAlone, planApart, placeOf, planOf};

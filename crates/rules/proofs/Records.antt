@@ -8,10 +8,10 @@ use Rattle.base.proofs.Each.{length-eachFrom}
 use Rattle.base.proofs.Facts.{lt-or-le}
 use Rattle.cluster.specs.declared.Server.{Server}
 use Rattle.cluster.specs.declared.Cluster.{Cluster}
-use Rattle.cluster.specs.Ranges.{FitsServer, Fits}
+use Rattle.cluster.specs.Ranges.{FitsServer}
 use Rattle.cluster.specs.Servers.{mostServers, zeroServer, pastServer, serverAt, withServer}
 use Rattle.cluster.proofs.Changed.{replaced-others, changed-at}
-use Rattle.cluster.proofs.Good.{ServerGood, Good}
+use Rattle.cluster.proofs.Good.{ServerGood}
 use Rattle.mail.proofs.Good.{MailGood}
 use Rattle.base.proofs.Replaced.{all-set, all-at}
 use Rattle.rules.proofs.Others.{changedBy}

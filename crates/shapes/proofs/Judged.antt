@@ -1,10 +1,10 @@
 -- What a line feed does, a law for each way that the line is judged. Assumes nothing.
-use mathlib.Core.Path.{_≡_, refl, sym, ap, _∙_}
+use mathlib.Core.Path.{_≡_, sym, ap, _∙_}
 use mathlib.Core.Bool.{Bool, true, false, cond}
 use mathlib.Core.List.{List}
 use Prim.Native.Nat.{ℕ, _≤_, _<_}
 use native.Mathlib.Omega.{arith}
-use lib.ListN.{length, take, replicate, length-take}
+use lib.ListN.{take, replicate, length-take}
 use Rattle.hex.specs.Lines.{bytesOf, over}
 use Rattle.lines.specs.Held.{nothingRead}
 use Rattle.lines.proofs.Held.{held-over, held-past, held-within}
@@ -50,16 +50,3 @@ module _ (s : Shape) where
           let same = left-same bs (bytesOf line) (bytes-same line bs (omega (arith, length-take (s .reader .fill) (s .reader .held))) f) k (s .left) in
           g ∙ (λ i. record { left = same i; reader = nothingRead keptChars frameReader; number = oneMore (s .number); broken = s .broken })
           ∙ ap (λ (x : List ℕ). nextLine k (bytesOf x) s) held ∙ by-test true (ap (isFrame k) (sym held) ∙ e)
-
--- as many characters are kept as before
-pub ended-slots : (s : Shape) → length (s .reader .held) ≡ keptChars → length (lineEnded s .reader .held) ≡ keptChars
-unfolding endedAs
-ended-slots s l = go (dueOf (s .left))
-  where
-    by : (k : Sort) (t : Bool) → length (cond {A = Shape} t (nextLine k (bytesOf (shapeHeld s)) s) (brokenAt s) .reader .held) ≡ keptChars
-    by k true = refl
-    by k false = l
-
-    go : (d : Due) → length (endedAs d s .reader .held) ≡ keptChars
-    go (Frame k) = by k (isFrame k (shapeHeld s))
-    go End = l
