@@ -1,63 +1,71 @@
--- The fields of a frame that is written are read back. Assumes nothing.
-use mathlib.Core.Path.{_≡_, refl, ap}
+-- The numbers of a frame that is written are read back, and so is what it tells. Assumes nothing.
+use mathlib.Core.Path.{_≡_, refl, sym, ap, _∙_}
 use mathlib.Core.Bool.{Bool, true, false, cond}
-use Prim.Native.Nat.{ℕ}
+use mathlib.Core.List.{List, [], _∷_}
+use Prim.Native.Nat.{ℕ, _≤_}
+use native.Mathlib.Omega.{arith}
 use lib.Dec.{eqb}
-use Rattle.words.proofs.Bytes.{word-parts}
+use lib.ListN.{length}
+use Rattle.words.specs.Words.{byteAt}
 use Rattle.log.specs.declared.Entry.{Entry}
 use Rattle.log.specs.Logs.{appended}
 use Rattle.mail.specs.declared.Report.{Report}
 use Rattle.mail.specs.declared.Note.{Note}
 use Rattle.mail.specs.Mails.{noted, received}
+use Rattle.cluster.specs.declared.Head.{Head}
 use Rattle.cluster.specs.declared.Server.{Server}
 use Rattle.cluster.specs.Servers.{withLog, withMail}
-use Rattle.saved.specs.Layout.{serverFrame, entryFrame, noteFrame, reportFrame}
-use Rattle.loads.specs.Decoded.{headIn, entryIn, reportIn, toldBy, roomy}
+use Rattle.saved.specs.declared.Sort.{Sort}
+use Rattle.saved.specs.declared.Sort.the-variants as S
+use Rattle.saved.specs.Layout.{Widths, sortNumber, frame, numbersIn, serverNumbers, serverFrame, entryFrame, noteFrame, reportFrame}
+use Rattle.saved.specs.Written.{mostBytes}
+use Rattle.saved.proofs.Fields.{written-size, said-written, said-same}
+use Rattle.saved.proofs.Lawful.{Lawful}
+use Rattle.shapes.proofs.Frames.{over-zeros}
+use Rattle.loads.specs.Decoded.{headSaid, entrySaid, reportSaid, toldBy, roomy}
 
 -- what a note's frame says, as a report
 abbrev pub reporting : ℕ → Note → Report
 reporting who n = record { who = who; term = n .term; last = n .last; len = n .len }
 
-pub head-read : (s : Server) → headIn (roomy (serverFrame s)) ≡ s .head
-head-read s =
-    λ i. record {
-      term = word-parts (s .head .term) i;
-      primary = role (s .head .primary) i;
-      commit = word-parts (s .head .commit) i;
-      wall = word-parts (s .head .wall) i;
-      time = record { p = word-parts (s .head .time .p) i; l = word-parts (s .head .time .l) i };
-    }
-  where
-    role : (b : Bool) → eqb (cond b 1 0) 1 ≡ b
-    role true = refl
-    role false = refl
+-- ---- the bytes
 
-entry-read : (e : Entry) → entryIn (roomy (entryFrame e)) ≡ e
-entry-read e =
-    λ i. record {
-      term = word-parts (e .term) i;
-      key = e .key;
-      value = word-parts (e .value) i;
-      time = record { p = word-parts (e .time .p) i; l = word-parts (e .time .l) i };
-    }
+module _ {w : Widths} (l : Lawful w) (k : Sort) (ns : List ℕ) (long : length ns ≡ length (w k)) where
+  frame-at : (i : ℕ) → byteAt (roomy (frame w k ns)) i ≡ byteAt (frame w k ns) i
+  frame-at i = over-zeros mostBytes (frame w k ns) (omega (arith, written-size (w k) ns long, l .small k)) i
 
-note-read : (who : ℕ) (n : Note) → reportIn (roomy (noteFrame who n)) ≡ reporting who n
-note-read who n = λ i. record { who = who; term = word-parts (n .term) i; last = word-parts (n .last) i; len = word-parts (n .len) i }
+  pub sort-read : byteAt (roomy (frame w k ns)) 0 ≡ sortNumber k
+  sort-read = frame-at 0
 
-report-read : (r : Report) → reportIn (roomy (reportFrame r)) ≡ r
-report-read r = λ i. record { who = r .who; term = word-parts (r .term) i; last = word-parts (r .last) i; len = word-parts (r .len) i }
+  pub numbers-read : numbersIn w k (roomy (frame w k ns)) ≡ ns
+  numbers-read = said-same (roomy (frame w k ns)) (frame w k ns) frame-at (w k) 1 ∙ said-written (w k) ns (sortNumber k ∷ []) long
 
--- ---- what a server is told
+-- ---- what they tell
 
-module _ (s : Server) where
-  pub told-entry : (e : Entry) → toldBy s (roomy (entryFrame e)) ≡ withLog s (appended (s .log) e)
+module _ {w : Widths} (l : Lawful w) (s : Server) where
+  pub head-read : headSaid (numbersIn w S.Server (roomy (serverFrame w s))) ≡ s .head
+  head-read = ap headSaid (numbers-read l S.Server (serverNumbers s) (sym (l .server-long))) ∙ role (s .head .primary)
+    where
+      role : (b : Bool)
+          → _≡_ {A = Head} (record { term = s .head .term; primary = eqb (cond b 1 0) 1; commit = s .head .commit; wall = s .head .wall; time = s .head .time })
+          (record { term = s .head .term; primary = b; commit = s .head .commit; wall = s .head .wall; time = s .head .time })
+      role true = refl
+      role false = refl
+
+  pub told-entry : (e : Entry) → toldBy w s (roomy (entryFrame w e)) ≡ withLog s (appended (s .log) e)
   unfolding toldBy
-  told-entry e = ap (λ (x : Entry). withLog s (appended (s .log) x)) (entry-read e)
+  told-entry e =
+      rw (sort-read l S.Entry _ (sym (l .entry-long)))
+      (ap (λ (ns : List ℕ). withLog s (appended (s .log) (entrySaid ns))) (numbers-read l S.Entry _ (sym (l .entry-long))))
 
-  pub told-note : (who : ℕ) (n : Note) → toldBy s (roomy (noteFrame who n)) ≡ withMail s (noted (s .mail) (reporting who n))
+  pub told-note : (who : ℕ) (n : Note) → toldBy w s (roomy (noteFrame w who n)) ≡ withMail s (noted (s .mail) (reporting who n))
   unfolding toldBy
-  told-note who n = ap (λ (x : Report). withMail s (noted (s .mail) x)) (note-read who n)
+  told-note who n =
+      rw (sort-read l S.Note _ (sym (l .note .long)))
+      (ap (λ (ns : List ℕ). withMail s (noted (s .mail) (reportSaid ns))) (numbers-read l S.Note _ (sym (l .note .long))))
 
-  pub told-report : (r : Report) → toldBy s (roomy (reportFrame r)) ≡ withMail s (received (s .mail) r)
+  pub told-report : (r : Report) → toldBy w s (roomy (reportFrame w r)) ≡ withMail s (received (s .mail) r)
   unfolding toldBy
-  told-report r = ap (λ (x : Report). withMail s (received (s .mail) x)) (report-read r)
+  told-report r =
+      rw (sort-read l S.Report _ (sym (l .report .long)))
+      (ap (λ (ns : List ℕ). withMail s (received (s .mail) (reportSaid ns))) (numbers-read l S.Report _ (sym (l .report .long))))

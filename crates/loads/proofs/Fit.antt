@@ -15,8 +15,7 @@ use Rattle.base.proofs.Joined.{joined-low, joined-high}
 use Rattle.clock.specs.Times.{limit}
 use Rattle.hex.specs.Lines.{bytesOf}
 use Rattle.hex.proofs.Trips.{byte-below, bytes-below}
-use Rattle.words.specs.Words.{byteAt, wordAt}
-use Rattle.words.proofs.Bytes.{word-below}
+use Rattle.words.specs.Words.{byteAt}
 use Rattle.log.specs.Logs.{appended}
 use Rattle.log.specs.Ranges.{FitsEntry}
 use Rattle.mail.specs.Mails.{noted, received}
@@ -31,9 +30,14 @@ use Rattle.cluster.proofs.Fresh.{good-fresh, fits-fresh}
 use Rattle.base.proofs.Replaced.{all-set}
 use Rattle.log.proofs.Ranges.{fits-appended}
 use Rattle.lines.specs.Texts.{lines}
+use Rattle.saved.specs.declared.Sort.{Sort}
+use Rattle.saved.specs.declared.Sort.the-variants as S
+use Rattle.saved.specs.Layout.{Widths, numbersIn, said}
 use Rattle.saved.specs.Written.{mostBytes}
+use Rattle.saved.proofs.Fields.{said-below}
+use Rattle.saved.proofs.Lawful.{BytesAt, Tells, Lawful}
 use Rattle.loads.specs.declared.Draft.{Draft}
-use Rattle.loads.specs.Decoded.{headIn, serverIn, entryIn, reportIn, toldBy, counting, beginning, telling, withFrame, roomy, decodedBy, freshDraft, decoded}
+use Rattle.loads.specs.Decoded.{headSaid, serverSaid, entrySaid, reportSaid, toldBy, counting, beginning, telling, withFrame, roomy, decodedBy, freshDraft, decodedIn}
 
 -- ---- records
 
@@ -54,10 +58,6 @@ fits-put {c} f i s new =
 
 -- ---- the fields of a frame
 
--- every place of a list holds a byte
-abbrev BytesAt : List ℕ → Type 0
-BytesAt bs = (i : ℕ) → byteAt bs i < byte
-
 roomy-bytes : (line : List ℕ) → BytesAt (roomy (bytesOf line))
 roomy-bytes line i =
     ⊎-elim (λ l. rw (joined-low 0 k bs (replicate mostBytes 0) (omega arith) i l) (byte-below bs (bytes-below line) i))
@@ -74,41 +74,55 @@ roomy-bytes line i =
         ⊎-elim (λ l. rw (getD-replicate {A = ℕ} mostBytes i 0 0 l) (omega arith))
         (λ l. rw (List·getD-eq-default {A = ℕ} (replicate mostBytes 0) 0 {n = i} l) (omega arith)) (lt-or-le i mostBytes)
 
-module _ (bs : List ℕ) (b : BytesAt bs) where
-  word-at : (i : ℕ) → wordAt bs i ≤ limit
-  word-at i = word-below (byteAt bs i) (byteAt bs (i + 1)) (b i) (b (i + 1))
+module _ {w : Widths} (l : Lawful w) (bs : List ℕ) (b : BytesAt bs) where
+  -- every number has room in two bytes
+  number-at : (k : Sort) (i : ℕ) → said w k bs i ≤ limit
+  number-at k i = said-below (w k) bs b 1 i
 
-  fits-head-in : FitsHead (headIn bs)
-  fits-head-in = record { term = word-at 7; commit = omega (arith, word-at 9); wall = word-at 11; time = record { p = word-at 13; l = word-at 15 } }
+  fits-head-said : FitsHead (headSaid (numbersIn w S.Server bs))
+  fits-head-said =
+      record {
+        term = number-at S.Server 5;
+        commit = omega (arith, number-at S.Server 6);
+        wall = number-at S.Server 7;
+        time = record { p = number-at S.Server 8; l = number-at S.Server 9 };
+      }
 
-  fits-entry-in : FitsEntry (entryIn bs)
-  fits-entry-in = record { term = word-at 1; key = b 3; value = word-at 4; time = record { p = word-at 6; l = word-at 8 } }
+  fits-entry-said : FitsEntry (entrySaid (numbersIn w S.Entry bs))
+  fits-entry-said =
+      record { term = number-at S.Entry 0; key = l .key bs b; value = number-at S.Entry 2; time = record { p = number-at S.Entry 3; l = number-at S.Entry 4 } }
 
-  fits-report-in : FitsReport (reportIn bs)
-  fits-report-in = record { who = b 1; note = record { term = word-at 2; last = word-at 4; len = word-at 6 } }
+  fits-report-said : (k : Sort) → Tells w k → FitsReport (reportSaid (numbersIn w k bs))
+  fits-report-said k t = record { who = t .who bs b; note = record { term = number-at k 1; last = number-at k 2; len = number-at k 3 } }
 
   -- ---- what a frame does
 
-  fits-told : {s : Server} → FitsServer s → FitsServer (toldBy s bs)
+  fits-told : {s : Server} → FitsServer s → FitsServer (toldBy w s bs)
   unfolding toldBy
   fits-told {s} f = go (eqb (byteAt bs 0) 2) (eqb (byteAt bs 0) 3) (eqb (byteAt bs 0) 4)
     where
       go : (x y z : Bool)
-          → FitsServer (cond x (withLog s (appended (s .log) (entryIn bs))) (cond y (withMail s (noted (s .mail) (reportIn bs))) (cond z (withMail s (received (s .mail) (reportIn bs))) s)))
-      go true y z = fits-log f (fits-appended (f .log) fits-entry-in)
-      go false true z = fits-mail f (fits-noted (f .mail) fits-report-in)
-      go false false true = fits-mail f (fits-received (f .mail) fits-report-in)
+          → FitsServer
+          (cond x (withLog s (appended (s .log) (entrySaid (numbersIn w S.Entry bs))))
+          (cond y (withMail s (noted (s .mail) (reportSaid (numbersIn w S.Note bs))))
+          (cond z (withMail s (received (s .mail) (reportSaid (numbersIn w S.Report bs)))) s)))
+      go true y z = fits-log f (fits-appended (f .log) fits-entry-said)
+      go false true z = fits-mail f (fits-noted (f .mail) (fits-report-said S.Note (l .note)))
+      go false false true = fits-mail f (fits-received (f .mail) (fits-report-said S.Report (l .report)))
       go false false false = f
 
-  fits-begun : (d : Draft) → Fits (d .cluster) → Fits (beginning d (serverIn bs) .cluster)
+  fits-begun : (d : Draft) → Fits (d .cluster) → Fits (beginning d (serverSaid (numbersIn w S.Server bs)) .cluster)
   unfolding beginning
   fits-begun d f = go (ltb (d .begun) mostServers)
     where
-      go : (x : Bool) → Fits (cond x (record { cluster = withServer (d .cluster) (d .begun) (serverIn bs); begun = d .begun + 1 }) d .cluster)
-      go true = fits-put f (d .begun) (serverIn bs) (fits-mail (fits-head fits-zero fits-head-in) (fits-sourced (fits-zero .mail) (omega (arith, b 5))))
+      new : Server
+      new = serverSaid (numbersIn w S.Server bs)
+
+      go : (x : Bool) → Fits (cond x (record { cluster = withServer (d .cluster) (d .begun) new; begun = d .begun + 1 }) d .cluster)
+      go true = fits-put f (d .begun) new (fits-mail (fits-head fits-zero fits-head-said) (fits-sourced (fits-zero .mail) (omega (arith, number-at S.Server 3))))
       go false = f
 
-  fits-telling : (d : Draft) → Fits (d .cluster) → Fits (telling d bs .cluster)
+  fits-telling : (d : Draft) → Fits (d .cluster) → Fits (telling w d bs .cluster)
   unfolding telling
   fits-telling d f = go (leb 1 (d .begun) && leb (d .begun) mostServers) refl
     where
@@ -116,29 +130,30 @@ module _ (bs : List ℕ) (b : BytesAt bs) where
       i = d .begun - 1
 
       go : (x : Bool) → (leb 1 (d .begun) && leb (d .begun) mostServers) ≡ x
-          → Fits (cond x (record { cluster = withServer (d .cluster) i (toldBy (serverAt (d .cluster) i) bs); begun = d .begun }) d .cluster)
+          → Fits (cond x (record { cluster = withServer (d .cluster) i (toldBy w (serverAt (d .cluster) i) bs); begun = d .begun }) d .cluster)
       go true e =
           let n = leb-true 1 (d .begun) (and-left _ _ e) in
           let m = leb-true (d .begun) mostServers (and-right (leb 1 (d .begun)) _ e) in
-          fits-put f i (toldBy (serverAt (d .cluster) i) bs) (fits-told (f .each i (omega arith)))
+          fits-put f i (toldBy w (serverAt (d .cluster) i) bs) (fits-told (f .each i (omega arith)))
       go false e = f
 
-  fits-frame : (d : Draft) → Fits (d .cluster) → Fits (withFrame d bs .cluster)
+  fits-frame : (d : Draft) → Fits (d .cluster) → Fits (withFrame w d bs .cluster)
   unfolding withFrame
   fits-frame d f = go (eqb (byteAt bs 0) 0) (eqb (byteAt bs 0) 1)
     where
-      go : (x y : Bool) → Fits (cond x (counting d (byteAt bs 2)) (cond y (beginning d (serverIn bs)) (telling d bs)) .cluster)
-      go true y = record { count = omega (arith, b 2); slots = f .slots; each = f .each }
+      go : (x y : Bool) → Fits (cond x (counting d (said w S.First bs 1)) (cond y (beginning d (serverSaid (numbersIn w S.Server bs))) (telling w d bs)) .cluster)
+      go true y = record { count = omega (arith, number-at S.First 1); slots = f .slots; each = f .each }
       go false true = fits-begun d f
       go false false = fits-telling d f
 
 -- ---- one frame after the other
 
-fits-decoded-by : (d : Draft) (ls : List (List ℕ)) → Fits (d .cluster) → Fits (decodedBy d (map bytesOf ls) .cluster)
-fits-decoded-by d [] f = f
-fits-decoded-by d (l ∷ ls) f =
-    fits-decoded-by (withFrame d (roomy (bytesOf l))) ls (fits-frame (roomy (bytesOf l)) (roomy-bytes l) d f)
+module _ {w : Widths} (l : Lawful w) where
+  fits-decoded-by : (d : Draft) (ls : List (List ℕ)) → Fits (d .cluster) → Fits (decodedBy w d (map bytesOf ls) .cluster)
+  fits-decoded-by d [] f = f
+  fits-decoded-by d (x ∷ ls) f =
+      fits-decoded-by (withFrame w d (roomy (bytesOf x))) ls (fits-frame l (roomy (bytesOf x)) (roomy-bytes x) d f)
 
-pub fits-decoded : (text : List ℕ) → Fits (decoded text)
-unfolding decoded
-fits-decoded text = fits-decoded-by freshDraft (lines text) fits-zero-cluster
+  pub fits-decoded : (text : List ℕ) → Fits (decodedIn w text)
+  unfolding decodedIn
+  fits-decoded text = fits-decoded-by freshDraft (lines text) fits-zero-cluster

@@ -11,8 +11,9 @@ use lib.Seq.{take-suc, drop-cons, drop-drop, getD-drop}
 use Rattle.hex.specs.Lines.{bytesOf}
 use Rattle.lines.specs.Texts.{lineFeed, lines}
 use Rattle.lines.proofs.Lines.{Plain, none, more, plain-snoc, line-first, line-last}
+use Rattle.saved.specs.Editions.{widths1}
 use Rattle.loads.specs.declared.Draft.{Draft}
-use Rattle.loads.specs.Decoded.{withFrame, roomy, decodedBy, freshDraft, decoded}
+use Rattle.loads.specs.Decoded.{withFrame, roomy, decodedBy, freshDraft, decodedIn}
 
 -- the bytes from start up to i
 abbrev pub part : List ℕ → ℕ → ℕ → List ℕ
@@ -20,7 +21,7 @@ part text start i = take (i - start) (drop start text)
 
 -- the draft of the lines of a text from a place on
 abbrev reading : Draft → List ℕ → Draft
-reading d text = decodedBy d (map bytesOf (lines text))
+reading d text = decodedBy widths1 d (map bytesOf (lines text))
 
 -- the lines up to start are decoded, and from there to i there is no line feed
 pub record Read (text : List ℕ) (d : Draft) (start i : ℕ) : Type 0 where
@@ -51,7 +52,7 @@ module _ {text : List ℕ} {d : Draft} {start i : ℕ} (r : Read text d start i)
             let e : i + 1 - start ≡ suc (i - start) = omega (arith, r .begun) in
             rw (e, take-suc (drop start text) (i - start) 0 (omega (arith, length-drop start text, r .begun)), next) (plain-snoc (getD text i 0) (r .plain) (ne-eqb _ _ n))
 
-    pub read-line : {e : Draft} → getD text i 0 ≡ lineFeed → e ≡ withFrame d (roomy (bytesOf (part text start i))) → Read text e (i + 1) (i + 1)
+    pub read-line : {e : Draft} → getD text i 0 ≡ lineFeed → e ≡ withFrame widths1 d (roomy (bytesOf (part text start i))) → Read text e (i + 1) (i + 1)
     read-line {e} f p = record { begun = omega arith; inside = omega arith; plain = nothing; same = after }
       where
         nothing : Plain (part text (i + 1) (i + 1))
@@ -64,7 +65,7 @@ module _ {text : List ℕ} {d : Draft} {start i : ℕ} (r : Read text d start i)
         line = ap lines (cut ∙ ap (λ (l : List ℕ). part text start i ++ l) here) ∙ line-first (drop (i + 1) text) (r .plain)
 
         after : reading e (drop (i + 1) text) ≡ reading freshDraft text
-        after = ap (λ (x : Draft). reading x (drop (i + 1) text)) p ∙ sym (ap (λ (ls : List (List ℕ)). decodedBy d (map bytesOf ls)) line) ∙ r .same
+        after = ap (λ (x : Draft). reading x (drop (i + 1) text)) p ∙ sym (ap (λ (ls : List (List ℕ)). decodedBy widths1 d (map bytesOf ls)) line) ∙ r .same
 
   -- ---- at the end
 
@@ -73,10 +74,10 @@ module _ {text : List ℕ} {d : Draft} {start i : ℕ} (r : Read text d start i)
     rest = cut ∙ ap (λ (l : List ℕ). part text start i ++ l) (drop-of-length-le text {i = i} h) ∙ append-nil (part text start i)
 
     -- a last line without a line feed counts
-    pub read-last : {e : Draft} → start < i → e ≡ withFrame d (roomy (bytesOf (part text start i))) → e .cluster ≡ decoded text
-    unfolding decoded
+    pub read-last : {e : Draft} → start < i → e ≡ withFrame widths1 d (roomy (bytesOf (part text start i))) → e .cluster ≡ decodedIn widths1 text
+    unfolding decodedIn
     read-last {e} l p =
-        ap (λ (x : Draft). x .cluster) (p ∙ sym (ap (λ (ls : List (List ℕ)). decodedBy d (map bytesOf ls)) (ap lines rest ∙ one (part text start i) (r .plain) some)) ∙ r .same)
+        ap (λ (x : Draft). x .cluster) (p ∙ sym (ap (λ (ls : List (List ℕ)). decodedBy widths1 d (map bytesOf ls)) (ap lines rest ∙ one (part text start i) (r .plain) some)) ∙ r .same)
       where
         some : 0 < length (part text start i)
         some = omega (arith, length-take (i - start) (drop start text), length-drop start text, r .inside)
@@ -85,8 +86,8 @@ module _ {text : List ℕ} {d : Draft} {start i : ℕ} (r : Read text d start i)
         one [] q l = absurd (omega arith)
         one (b ∷ p) (more f q) l = line-last b p f q
 
-    pub read-all : i ≤ start → d .cluster ≡ decoded text
-    unfolding decoded
+    pub read-all : i ≤ start → d .cluster ≡ decodedIn widths1 text
+    unfolding decodedIn
     read-all l =
         let e : drop start text ≡ [] = drop-of-length-le text {i = start} (omega arith) in
         ap (λ (x : Draft). x .cluster) (sym (ap (reading d) e) ∙ r .same)

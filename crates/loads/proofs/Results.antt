@@ -5,7 +5,10 @@ use mathlib.Core.List.{List}
 use Prim.Native.Nat.{ℕ}
 use Rattle.base.proofs.Results.{OneResult, one-result}
 use Rattle.cluster.specs.declared.Cluster.{Cluster}
-use Rattle.loads.specs.Decoded.{headIn, entryIn, reportIn, decoded}
+use Rattle.saved.specs.declared.Sort.the-variants as S
+use Rattle.saved.specs.Layout.{numbersIn}
+use Rattle.saved.specs.Editions.{widths1}
+use Rattle.loads.specs.Decoded.{headSaid, entrySaid, reportSaid, decodedIn}
 use Rattle.loads.specs.Loads.{sameText, loadOf}
 use Rattle.loads.proofs.decode.Reads as decode-reads
 use Rattle.loads.proofs.head_in.Reads as head-in-reads
@@ -15,16 +18,16 @@ use Rattle.loads.proofs.same_text.Reads as same-text-reads
 use Rattle.loads.proofs.load.Reads as load-reads
 
 pub head-in : (b : List ℕ) → OneResult (λ x. head-in-reads.Learnt tt (b, tt) x (b, tt))
-head-in b = one-result (headIn b)
+head-in b = one-result (headSaid (numbersIn widths1 S.Server b))
 
 pub entry-in : (b : List ℕ) → OneResult (λ x. entry-in-reads.Learnt tt (b, tt) x (b, tt))
-entry-in b = one-result (entryIn b)
+entry-in b = one-result (entrySaid (numbersIn widths1 S.Entry b))
 
 pub report-in : (b : List ℕ) → OneResult (λ x. report-in-reads.Learnt tt (b, tt) x (b, tt))
-report-in b = one-result (reportIn b)
+report-in b = one-result (reportSaid (numbersIn widths1 S.Note b))
 
 pub decode : (κs : Lfts 1) (text : RefT (List ℕ)) → OneResult (λ x. decode-reads.Learnt κs (text, tt) x (text, tt))
-decode κs text = one-result (decoded (now text))
+decode κs text = one-result (decodedIn widths1 (now text))
 
 pub same-text : (κs : Lfts 2) (a b : RefT (List ℕ)) → OneResult (λ x. same-text-reads.Learnt κs (a, (b, tt)) x (a, (b, tt)))
 same-text κs a b = one-result (sameText (now a) (now b))

@@ -7,62 +7,86 @@ use native.Mathlib.Omega.{arith}
 use lib.ListN.{length, take, drop, length-append}
 use lib.Seq.{take-at}
 use borrow.Author.Tests.{le-ltb}
-use Rattle.base.proofs.Bools.{not-both}
+use Rattle.base.proofs.Bools.{and-left, and-right}
 use Rattle.cluster.specs.declared.Cluster.{Cluster}
-use Rattle.cluster.specs.WellFormed.{wellFormed}
-use Rattle.steps.specs.declared.Refusal.the-variants.{IllFormed}
+use Rattle.steps.specs.declared.Refusal.the-variants.{IllFormed, OutOfRange}
 use Rattle.saved.specs.declared.Saved.{Saved}
 use Rattle.saved.specs.declared.Saved.the-variants.{Text, NoRoom, Refused}
-use Rattle.saved.specs.Saved.{saveOf}
-use Rattle.saved.specs.Written.{longest, savedOf, savedOut}
+use Rattle.saved.specs.Editions.{editions, isKnown, numbered, hasForm}
+use Rattle.saved.specs.Saved.{savedAs}
+use Rattle.saved.specs.Written.{longest, savedAsOf, savedAsOut}
 use Rattle.loads.specs.Loads.{sameText}
 
--- a text of so many bytes was written into a buffer: the record is well formed, and its saved form is what stands first
-pub record Wrote (d : Cluster) (n : ℕ) (after : List ℕ) : Type 0 where
-  pub formed : wellFormed d ≡ true
-  pub within : n ≤ length after
-  pub text : take n after ≡ saveOf d
+-- the edition of a number is known and has a form for the record
+abbrev pub hasText : ℕ → Cluster → Bool
+hasText n d = isKnown editions n && hasForm (numbered editions n) d
 
 abbrev pub isText : Saved → Bool
 isText (Text n) = true
 isText NoRoom = false
 isText (Refused r) = false
 
--- there is a text just where the record is well formed
-saves : (d : Cluster) (room : ℕ) → longest ≤ room → savedOf d room ≡ cond (wellFormed d) (Text (length (saveOf d))) (Refused IllFormed)
-unfolding savedOf
-saves d room h = rw (le-ltb room longest h)
+module _ (n : ℕ) (d : Cluster) where
+  abbrev form : List ℕ
+  form = savedAs (numbered editions n) d
 
-pub no-text : (d : Cluster) (room : ℕ) → longest ≤ room → (s : Saved) → isText s ≡ false → s ≡ savedOf d room → wellFormed d ≡ false
-no-text d room h s t e = go (wellFormed d) refl (e ∙ saves d room h)
-  where
-    go : (b : Bool) → wellFormed d ≡ b → s ≡ cond b (Text (length (saveOf d))) (Refused IllFormed) → wellFormed d ≡ false
-    go true f p = not-both (isText s) (ap isText p) t
-    go false f p = f
+  -- a text of so many bytes was written into a buffer: the record has a form, and that is what stands first
+  pub record Wrote (m : ℕ) (after : List ℕ) : Type 0 where
+    pub has : hasText n d ≡ true
+    pub within : m ≤ length after
+    pub text : take m after ≡ form
 
-pub wrote-text : (d : Cluster) (out : List ℕ) → longest ≤ length out → (n : ℕ) (after : List ℕ) → Text n ≡ savedOf d (length out) → after ≡ savedOut d out → Wrote d n after
-unfolding savedOut
-wrote-text d out h n after e p = go (wellFormed d) refl (e ∙ saves d (length out) h)
-  where
-    go : (b : Bool) → wellFormed d ≡ b → Text n ≡ cond b (Text (length (saveOf d))) (Refused IllFormed) → Wrote d n after
-    go true f q = record {
-      formed = f;
-      within = omega (arith, ap length whole, length-append (saveOf d) (drop (length (saveOf d)) out), long);
-      text = ap (take n) whole ∙ take-at (saveOf d) (drop (length (saveOf d)) out) n (sym long);
-    }
-      where
-        long : n ≡ length (saveOf d)
-        long = cc
+  -- there is a text just where the edition has a form for the record
+  saves : (room : ℕ) → longest ≤ room → isText (savedAsOf n d room) ≡ hasText n d
+  unfolding savedAsOf
+  saves room h = rw (le-ltb room longest h) (go (isKnown editions n) (hasForm (numbered editions n) d))
+    where
+      go : (x y : Bool) → isText (cond x (cond y (Text (length form)) (Refused IllFormed)) (Refused OutOfRange)) ≡ (x && y)
+      go true true = refl
+      go true false = refl
+      go false y = refl
 
-        whole : after ≡ saveOf d ++ drop (length (saveOf d)) out
-        whole =
-            let z : 0 + length (saveOf d) ≡ length (saveOf d) = omega arith in
-            p ∙ rw (f, le-ltb (length out) longest h) (ap (λ (k : ℕ). saveOf d ++ drop k out) z)
-    go false f q = let z : _≡_ {A = ℕ} 0 1 = cc in absurd (omega arith)
+  pub no-text : (room : ℕ) → longest ≤ room → (s : Saved) → isText s ≡ false → s ≡ savedAsOf n d room → hasText n d ≡ false
+  no-text room h s t e = sym (saves room h) ∙ ap isText (sym e) ∙ t
 
--- the record is well formed and the text is its saved form: what a comparison then says
-pub wrote-same : {d : Cluster} {n : ℕ} {after : List ℕ} → Wrote d n after → (text : List ℕ) → sameText (take n after) text ≡ (wellFormed d && sameText (saveOf d) text)
-wrote-same {d} w text = ap (λ (t : List ℕ). sameText t text) (w .text) ∙ sym (ap (λ (b : Bool). b && sameText (saveOf d) text) (w .formed))
+  pub wrote-text : (out : List ℕ) → longest ≤ length out → (m : ℕ) (after : List ℕ) → Text m ≡ savedAsOf n d (length out) → after ≡ savedAsOut n d out → Wrote m after
+  unfolding savedAsOf savedAsOut
+  wrote-text out h m after e p =
+      record {
+        has = has;
+        within = omega (arith, ap length whole, length-append form (drop (length form) out), long);
+        text = ap (take m) whole ∙ take-at form (drop (length form) out) m (sym long);
+      }
+    where
+      has : hasText n d ≡ true
+      has = sym (saves (length out) h) ∙ ap isText (sym e)
 
-pub wrote-none : (d : Cluster) → wellFormed d ≡ false → (text : List ℕ) → false ≡ (wellFormed d && sameText (saveOf d) text)
-wrote-none d e text = sym (ap (λ (b : Bool). b && sameText (saveOf d) text) e)
+      known : isKnown editions n ≡ true
+      known = and-left _ _ has
+
+      formed : hasForm (numbered editions n) d ≡ true
+      formed = and-right (isKnown editions n) _ has
+
+      long : m ≡ length form
+      long = let q : Text m ≡ Text (length form) = e ∙ rw (known, formed, le-ltb (length out) longest h) in cc
+
+      whole : after ≡ form ++ drop (length form) out
+      whole =
+          let z : 0 + length form ≡ length form = omega arith in
+          p ∙ rw (known, formed, le-ltb (length out) longest h) (ap (λ (k : ℕ). form ++ drop k out) z)
+
+  -- what a comparison then says
+  abbrev savesTo : List ℕ → Bool
+  savesTo text = isKnown editions n && (hasForm (numbered editions n) d && sameText form text)
+
+  both : (x y z : Bool) → ((x && y) && z) ≡ (x && (y && z))
+  both true y z = refl
+  both false y z = refl
+
+  pub wrote-same : {m : ℕ} {after : List ℕ} → Wrote m after → (text : List ℕ) → sameText (take m after) text ≡ savesTo text
+  wrote-same w text =
+      ap (λ (t : List ℕ). sameText t text) (w .text) ∙ sym (ap (λ (b : Bool). b && sameText form text) (w .has))
+      ∙ both (isKnown editions n) (hasForm (numbered editions n) d) (sameText form text)
+
+  pub wrote-none : hasText n d ≡ false → (text : List ℕ) → false ≡ savesTo text
+  wrote-none e text = sym (ap (λ (b : Bool). b && sameText form text) e) ∙ both (isKnown editions n) (hasForm (numbered editions n) d) (sameText form text)

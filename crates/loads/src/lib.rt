@@ -1,13 +1,15 @@
-// Loading a saved form: its text is decoded frame by frame, and taken where it is what the decoded record saves to.
+// Loading a saved form: its text is decoded frame by frame, and taken where it is what the decoded record saves to in the text's edition.
 ghost use mathlib.Core.Path.{_≡_};
 ghost use mathlib.Core.Bool.{_&&_};
 ghost use Prim.Native.Nat.{_+_, _<_};
 ghost use Rattle.hex.specs.Lines.{bytesOf};
 ghost use Rattle.words.specs.Words.{wordAt};
-ghost use Rattle.cluster.specs.WellFormed.{wellFormed};
-ghost use Rattle.saved.specs.Saved.{saveOf};
+ghost use Rattle.saved.specs.declared.Sort.the-variants as S;
+ghost use Rattle.saved.specs.Layout.{numbersIn};
+ghost use Rattle.saved.specs.Editions.{widths1, editions, isKnown, numbered, hasForm};
+ghost use Rattle.saved.specs.Saved.{savedAs};
 ghost use Rattle.saved.specs.Written.{mostBytes};
-ghost use Rattle.loads.specs.Decoded.{headIn, serverIn, entryIn, reportIn, toldBy, counting, beginning, telling, withFrame, roomy, freshDraft, decoded};
+ghost use Rattle.loads.specs.Decoded.{headSaid, serverSaid, entrySaid, reportSaid, toldBy, counting, beginning, telling, withFrame, roomy, freshDraft, decodedIn};
 ghost use Rattle.loads.specs.Loads.{sameText, loadOf};
 use clock::Time;
 use cluster::Cluster;
@@ -48,7 +50,7 @@ fn word_at(b: [u8; BYTES], i: usize) -> u16
 
 // What a server's frame says of the server itself.
 pub fn head_in(b: [u8; BYTES]) -> Head
-    ensures { λ r. ⌜ r ≡ headIn b ⌝ }
+    ensures { λ r. ⌜ r ≡ headSaid (numbersIn widths1 S.Server b) ⌝ }
 {
     let p = word_at(b, 13);
     let l = word_at(b, 15);
@@ -63,7 +65,7 @@ pub fn head_in(b: [u8; BYTES]) -> Head
 
 // The server that a server frame begins.
 fn server_in(b: [u8; BYTES]) -> Server
-    ensures { λ r. ⌜ r ≡ serverIn b ⌝ }
+    ensures { λ r. ⌜ r ≡ serverSaid (numbersIn widths1 S.Server b) ⌝ }
 {
     Server {
         head: head_in(b),
@@ -74,7 +76,7 @@ fn server_in(b: [u8; BYTES]) -> Server
 
 // What an entry's frame says.
 pub fn entry_in(b: [u8; BYTES]) -> Entry
-    ensures { λ r. ⌜ r ≡ entryIn b ⌝ }
+    ensures { λ r. ⌜ r ≡ entrySaid (numbersIn widths1 S.Entry b) ⌝ }
 {
     let p = word_at(b, 6);
     let l = word_at(b, 8);
@@ -88,7 +90,7 @@ pub fn entry_in(b: [u8; BYTES]) -> Entry
 
 // What a note's or a report's frame says.
 pub fn report_in(b: [u8; BYTES]) -> Report
-    ensures { λ r. ⌜ r ≡ reportIn b ⌝ }
+    ensures { λ r. ⌜ r ≡ reportSaid (numbersIn widths1 S.Note b) ⌝ }
 {
     Report {
         who: b[1],
@@ -100,7 +102,7 @@ pub fn report_in(b: [u8; BYTES]) -> Report
 
 // The server with what an entry's, a note's or a report's frame tells.
 fn told_by(s: Server, b: [u8; BYTES]) -> Server
-    ensures { λ r. ⌜ r ≡ toldBy s b ⌝ }
+    ensures { λ r. ⌜ r ≡ toldBy widths1 s b ⌝ }
 {
     let sort = b[0];
     let g = s.log;
@@ -149,7 +151,7 @@ fn beginning(d: Draft, s: Server) -> Draft
 
 // The server that was begun last is told more.
 fn telling(d: Draft, b: [u8; BYTES]) -> Draft
-    ensures { λ r. ⌜ r ≡ telling d b ⌝ }
+    ensures { λ r. ⌜ r ≡ telling widths1 d b ⌝ }
 {
     let n = d.begun;
     if n < 1 {
@@ -169,7 +171,7 @@ fn telling(d: Draft, b: [u8; BYTES]) -> Draft
 }
 
 fn with_frame(d: Draft, b: [u8; BYTES]) -> Draft
-    ensures { λ r. ⌜ r ≡ withFrame d b ⌝ }
+    ensures { λ r. ⌜ r ≡ withFrame widths1 d b ⌝ }
 {
     let sort = b[0];
     match sort {
@@ -181,7 +183,7 @@ fn with_frame(d: Draft, b: [u8; BYTES]) -> Draft
 
 // The frame of a line, of any length.
 fn with_line(d: Draft, line: &[u8]) -> Draft
-    ensures { λ r. ⌜ r ≡ withFrame d (roomy (bytesOf (now (line .entry)))) ⌝ }
+    ensures { λ r. ⌜ r ≡ withFrame widths1 d (roomy (bytesOf (now (line .entry)))) ⌝ }
 {
     let mut b = [0u8; BYTES];
     hex::unhex(line, &mut b);
@@ -199,7 +201,7 @@ fn fresh_draft() -> Draft
 
 // What a text decodes to, with nothing checked.
 pub fn decode(text: &[u8]) -> Cluster
-    ensures { λ r. ⌜ r ≡ decoded (now (text .entry)) ⌝ }
+    ensures { λ r. ⌜ r ≡ decodedIn widths1 (now (text .entry)) ⌝ }
 {
     let mut d = fresh_draft();
     let mut start: usize = 0;
@@ -234,12 +236,12 @@ pub fn same_text(a: &[u8], b: &[u8]) -> bool
     true
 }
 
-// Whether a record is well formed and the text is its saved form.
-fn saves_to(d: Cluster, text: &[u8]) -> bool
-    ensures { λ r. ⌜ r ≡ (wellFormed d && sameText (saveOf d) (now (text .entry))) ⌝ }
+// Whether the edition has a form for a record, and the text is that form.
+fn saves_to(edition: u8, d: Cluster, text: &[u8]) -> bool
+    ensures { λ r. ⌜ r ≡ (isKnown editions edition && (hasForm (numbered editions edition) d && sameText (savedAs (numbered editions edition) d) (now (text .entry)))) ⌝ }
 {
     let mut out = [0u8; saved::LONGEST];
-    let wrote = saved::save(d, &mut out);
+    let wrote = saved::save_as(edition, d, &mut out);
     match wrote {
         Saved::Text(n) => same_text(&out[..n], text),
         Saved::NoRoom => false,
@@ -247,7 +249,7 @@ fn saves_to(d: Cluster, text: &[u8]) -> bool
     }
 }
 
-// The record that the text is the saved form of, or the record that was given and why it isn't loaded: the shape is asked for first.
+// The record that the text is the saved form of in its own edition, or the record that was given and why it isn't loaded: the shape is asked for first.
 pub fn load(c: Cluster, text: &[u8]) -> Outcome
     ensures { λ r. ⌜ r ≡ loadOf c (now (text .entry)) ⌝ }
 {
@@ -256,7 +258,7 @@ pub fn load(c: Cluster, text: &[u8]) -> Outcome
         return steps::refuse_all(c, Refusal::NotAFrame);
     }
     let d = decode(text);
-    if !saves_to(d, text) {
+    if !saves_to(shape.left.edition, d, text) {
         return steps::refuse_all(c, Refusal::IllFormed);
     }
     Outcome {

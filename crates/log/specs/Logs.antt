@@ -24,9 +24,13 @@ mayAsk n term = leb 1 n && (leb n highestPosition && leb 1 term)
 abbrev pub emptyLog : Log
 emptyLog = record { entries = replicate logLimit zeroEntry; len = 0 }
 
--- the entries that a log holds: its slots up to its length
+-- the entries that a log keeps: its slots up to its length
+abbrev pub kept : Log → List Entry
+kept g = take (g .len) (g .entries)
+
+-- the log by positions; as long as nothing is dropped, what is kept
 abbrev pub live : Log → List Entry
-live g = take (g .len) (g .entries)
+live g = kept g
 
 abbrev pub lengthOf : Log → ℕ
 lengthOf g = length (live g)

@@ -1,5 +1,5 @@
 -- The frames of a record that fits and is well formed: each is of bytes, and their text is no longer than the longest. Assumes nothing.
-use mathlib.Core.Path.{_≡_, refl, ap}
+use mathlib.Core.Path.{_≡_, refl, sym, ap, subst}
 use mathlib.Core.Bool.{Bool, true, false, cond, not, _&&_}
 use mathlib.Core.List.{List, [], _∷_, _++_, map}
 use Prim.Native.Nat.{ℕ, suc, _+_, _*_, _<_, _≤_}
@@ -10,27 +10,20 @@ use lib.Dec.{leb}
 use lib.ListN.{length, getD, take, length-take, length-append}
 use lib.Seq.{getD-take}
 use Rattle.base.specs.Numbers.{byte, every}
-use Rattle.base.proofs.Cases.{_▸_}
 use Rattle.base.proofs.Bools.{and-left, and-right}
 use Rattle.base.proofs.Every.{every-at}
-use Rattle.base.proofs.Counting.{count-le}
-use Rattle.clock.specs.Times.{limit, isBefore}
-use Rattle.words.specs.Words.{highOf, lowOf}
-use Rattle.words.proofs.Bytes.{high-below, low-below}
+use Rattle.clock.specs.Times.{isBefore}
 use Rattle.hex.specs.Lines.{chars, bytesOf}
 use Rattle.hex.proofs.Trips.{Bytes}
-use Rattle.log.specs.declared.Entry.{Entry}
 use Rattle.log.specs.Entries.{zeroEntry, appliedTime}
-use Rattle.log.specs.Logs.{logLimit, live}
+use Rattle.log.specs.Logs.{logLimit, kept, live}
 use Rattle.log.specs.Order.{logOk}
-use Rattle.log.specs.Ranges.{FitsEntry}
-use Rattle.mail.specs.declared.Report.{Report}
 use Rattle.mail.specs.declared.Note.{Note}
-use Rattle.mail.specs.Reports.{zeroReport, zeroNote, noteOf}
+use Rattle.mail.specs.Reports.{zeroReport, zeroNote}
 use Rattle.mail.specs.Queues.{queueLimit}
-use Rattle.mail.specs.Mails.{noteSlots, noteAt}
+use Rattle.mail.specs.Mails.{noteSlots}
 use Rattle.mail.specs.Order.{isUnused, notesOk, queueOk, mailOk}
-use Rattle.mail.specs.Ranges.{FitsNote, FitsReport}
+use Rattle.mail.specs.Ranges.{FitsNote}
 use Rattle.mail.proofs.Good.{source-good}
 use Rattle.cluster.specs.declared.Server.{Server}
 use Rattle.cluster.specs.declared.Cluster.{Cluster}
@@ -38,49 +31,28 @@ use Rattle.cluster.specs.Servers.{fewestServers, mostServers, pastServer, serve
 use Rattle.cluster.specs.WellFormed.{numbersOk, countedOk, serverOk, wellFormed}
 use Rattle.cluster.specs.Ranges.{FitsServer, Fits}
 use Rattle.lines.specs.Texts.{lines}
+use Rattle.saved.specs.declared.Sort.{Sort}
 use Rattle.saved.specs.declared.Sort.the-variants as S
-use Rattle.saved.specs.Layout.{bytesOfFields, sizeOf, usedNotes, toldFields, firstFrame, serverFrame, entryFrame, noteFrame, reportFrame}
-use Rattle.saved.specs.Saved.{noteFrames, queuedReports, serverFrames, allFrames, framesOf, textOf, edition, saveOf}
+use Rattle.saved.specs.Layout.{Widths, frame, sizeOf, sortNumber, firstFrame, serverFrame, entryFrame, noteFrame, reportFrame}
+use Rattle.saved.specs.Editions.{Edition, widths1}
+use Rattle.saved.specs.Saved.{noteFrames, queuedReports, serverFrames, allFrames, framesOf, textOf, savedAs}
 use Rattle.saved.specs.Written.{Small, lineLength, longestServer, longest}
+use Rattle.saved.proofs.Fields.{Room, room-bytes}
+use Rattle.saved.proofs.Lawful.{Lawful}
 use Rattle.saved.proofs.Texts.{AllBytes, all-none, all-more, text-append, text-length, text-frames}
 
 -- ---- one frame
 
--- both bytes of a field, and then the others
-two-more : {B : Type 0} {n : ℕ} → n ≤ limit → B → (highOf n < byte) × ((lowOf n < byte) × B)
-two-more {n = n} h b = (high-below n h, (low-below n, b))
-
-role-byte : (b : Bool) → cond b 1 0 < byte
-role-byte true = omega arith
-role-byte false = omega arith
-
-pub first-bytes : (edition size : ℕ) → edition < byte → size < byte → Bytes (firstFrame edition size)
-first-bytes edition size e h = (omega arith, (e, (h, tt)))
-
-pub server-bytes : (s : Server) → FitsServer s → Small s → Bytes (serverFrame s)
-server-bytes s f k =
-    let entries : s .log .len ≤ limit = omega (arith, k .entries) in
-    let notes : usedNotes (s .mail) < byte = omega (arith, count-le (λ i. not (isUnused (noteAt (s .mail) i))) noteSlots) in
-    let reports : s .mail .queue .len < byte = omega (arith, k .reports) in
-    let source : s .mail .source < byte = omega (arith, k .source) in
-    let commit : s .head .commit ≤ limit = omega (arith, k .commit) in
-    let h = f .head in (
-      omega arith,
-      two-more entries (notes ▸ reports ▸ source ▸ role-byte (s .head .primary)
-          ▸ two-more (h .term) (two-more commit (two-more (h .wall) (two-more (h .time .p) (two-more (h .time .l) tt))))),
-    )
-
-pub entry-bytes : (e : Entry) → FitsEntry e → Bytes (entryFrame e)
-entry-bytes e f = (omega arith, two-more (f .term) (f .key ▸ two-more (f .value) (two-more (f .time .p) (two-more (f .time .l) tt))))
-
-told-bytes : (who : ℕ) (n : Note) → who < byte → FitsNote n → Bytes (bytesOfFields (toldFields who n))
-told-bytes who n h f = (h, two-more (f .term) (two-more (f .last) (two-more (f .len) tt)))
-
-pub note-bytes : (who : ℕ) (n : Note) → who < byte → FitsNote n → Bytes (noteFrame who n)
-note-bytes who n h f = (omega arith, told-bytes who n h f)
-
-pub report-bytes : (r : Report) → FitsReport r → Bytes (reportFrame r)
-report-bytes r f = (omega arith, told-bytes (r .who) (noteOf r) (f .who) (f .note))
+-- a frame whose numbers have room is of bytes
+frame-bytes : (w : Widths) (k : Sort) (ns : List ℕ) → Room (w k) ns → Bytes (frame w k ns)
+frame-bytes w k ns r = (sort-byte k, room-bytes (w k) ns r)
+  where
+    sort-byte : (k : Sort) → sortNumber k < byte
+    sort-byte S.First = omega arith
+    sort-byte S.Server = omega arith
+    sort-byte S.Entry = omega arith
+    sort-byte S.Note = omega arith
+    sort-byte S.Report = omega arith
 
 -- ---- the frames of a record
 
@@ -98,61 +70,63 @@ pub all-append : {xs ys : List (List ℕ)} → AllBytes xs → AllBytes ys → A
 all-append all-none q = q
 all-append (all-more p ps) q = all-more p (all-append ps q)
 
-notes-bytes : (i : ℕ) (ns : List Note) → i + length ns ≤ byte → ((j : ℕ) → j < length ns → FitsNote (getD ns j zeroNote)) → AllBytes (noteFrames i ns)
-notes-bytes i [] h f = all-none
-notes-bytes i (n ∷ ns) h f = go (isUnused n) (notes-bytes (suc i) ns (omega arith) (λ j l. f (suc j) (omega arith)))
+notes-bytes : {w : Widths} → Lawful w → (i : ℕ) (ns : List Note) → i + length ns ≤ byte → ((j : ℕ) → j < length ns → FitsNote (getD ns j zeroNote))
+    → AllBytes (noteFrames w i ns)
+notes-bytes l i [] h f = all-none
+notes-bytes {w} l i (n ∷ ns) h f = go (isUnused n) (notes-bytes l (suc i) ns (omega arith) (λ j k. f (suc j) (omega arith)))
   where
-    go : (b : Bool) → AllBytes (noteFrames (suc i) ns) → AllBytes (cond b (noteFrames (suc i) ns) (noteFrame i n ∷ noteFrames (suc i) ns))
+    go : (b : Bool) → AllBytes (noteFrames w (suc i) ns) → AllBytes (cond b (noteFrames w (suc i) ns) (noteFrame w i n ∷ noteFrames w (suc i) ns))
     go true rest = rest
-    go false rest = all-more (note-bytes i n (omega arith) (f 0 (omega arith))) rest
+    go false rest = all-more (frame-bytes w S.Note _ (l .note .room i n (omega arith) (f 0 (omega arith)))) rest
 
-notes-length : (i : ℕ) (ns : List Note) → length (textOf (noteFrames i ns)) ≤ length ns * lineLength S.Note
+notes-length : (i : ℕ) (ns : List Note) → length (textOf (noteFrames widths1 i ns)) ≤ length ns * lineLength S.Note
 notes-length i [] = omega arith
 notes-length i (n ∷ ns) = go (isUnused n) (notes-length (suc i) ns)
   where
-    go : (b : Bool) → length (textOf (noteFrames (suc i) ns)) ≤ length ns * lineLength S.Note
-        → length (textOf (cond b (noteFrames (suc i) ns) (noteFrame i n ∷ noteFrames (suc i) ns))) ≤ suc (length ns) * lineLength S.Note
+    go : (b : Bool) → length (textOf (noteFrames widths1 (suc i) ns)) ≤ length ns * lineLength S.Note
+        → length (textOf (cond b (noteFrames widths1 (suc i) ns) (noteFrame widths1 i n ∷ noteFrames widths1 (suc i) ns))) ≤ suc (length ns) * lineLength S.Note
     go true h = omega arith
-    go false h = omega (arith, text-length (noteFrame i n) (noteFrames (suc i) ns))
+    go false h = omega (arith, text-length (noteFrame widths1 i n) (noteFrames widths1 (suc i) ns))
 
-module _ {s : Server} (f : FitsServer s) (k : Small s) where
-  entries-bytes : AllBytes (map entryFrame (live (s .log)))
+module _ {w : Widths} (l : Lawful w) {s : Server} (f : FitsServer s) (k : Small s) where
+  entries-bytes : AllBytes (map (entryFrame w) (kept (s .log)))
   entries-bytes =
-      all-map entryFrame zeroEntry (live (s .log))
-      (λ i l. let m : i < s .log .len = omega (arith, length-take (s .log .len) (s .log .entries)) in
-      rw (getD-take (s .log .len) (s .log .entries) i zeroEntry m) (entry-bytes _ (f .log .each i (omega (arith, k .entries)))))
+      all-map (entryFrame w) zeroEntry (kept (s .log))
+      (λ i h. let m : i < s .log .len = omega (arith, length-take (s .log .len) (s .log .entries)) in
+      rw (getD-take (s .log .len) (s .log .entries) i zeroEntry m) (frame-bytes w S.Entry _ (l .entry _ (f .log .each i (omega (arith, k .entries))))))
 
-  reports-bytes : AllBytes (map reportFrame (queuedReports (s .mail .queue)))
+  reports-bytes : AllBytes (map (reportFrame w) (queuedReports (s .mail .queue)))
   reports-bytes =
       let q = s .mail .queue in
-      all-map reportFrame zeroReport (queuedReports q)
-      (λ i l. let m : i < q .len = omega (arith, length-take (q .len) (q .reports)) in
-      rw (getD-take (q .len) (q .reports) i zeroReport m) (report-bytes _ (f .mail .queue .each i (omega (arith, k .reports)))))
+      all-map (reportFrame w) zeroReport (queuedReports q)
+      (λ i h. let m : i < q .len = omega (arith, length-take (q .len) (q .reports)) in
+      let r = f .mail .queue .each i (omega (arith, k .reports)) in
+      rw (getD-take (q .len) (q .reports) i zeroReport m) (frame-bytes w S.Report _ (l .report .room _ _ (r .who) (r .note))))
 
-  pub server-frames-bytes : AllBytes (serverFrames s)
+  pub server-frames-bytes : AllBytes (serverFrames w s)
   server-frames-bytes =
-      all-more (server-bytes s f k)
+      all-more (frame-bytes w S.Server _ (l .server s f k))
       (all-append entries-bytes
-      (all-append (notes-bytes 0 (s .mail .notes) (omega (arith, f .mail .slots)) (λ j l. f .mail .each j (omega (arith, f .mail .slots)))) reports-bytes))
+      (all-append (notes-bytes l 0 (s .mail .notes) (omega (arith, f .mail .slots)) (λ j m. f .mail .each j (omega (arith, f .mail .slots)))) reports-bytes))
 
-pub server-length : {s : Server} → Small s → length (s .mail .notes) ≡ noteSlots → length (textOf (serverFrames s)) ≤ longestServer
+pub server-length : {s : Server} → Small s → length (s .mail .notes) ≡ noteSlots → length (textOf (serverFrames widths1 s)) ≤ longestServer
 server-length {s} k slots =
-    let es = map entryFrame (live (s .log)) in
-    let ns = noteFrames 0 (s .mail .notes) in
-    let rs = map reportFrame (queuedReports (s .mail .queue)) in
+    let es = map (entryFrame widths1) (kept (s .log)) in
+    let ns = noteFrames widths1 0 (s .mail .notes) in
+    let rs = map (reportFrame widths1) (queuedReports (s .mail .queue)) in
     omega (
       arith,
-      text-length (serverFrame s) (es ++ (ns ++ rs)),
+      text-length (serverFrame widths1 s) (es ++ (ns ++ rs)),
       ap length (text-append es (ns ++ rs)),
       length-append (textOf es) (textOf (ns ++ rs)),
       ap length (text-append ns rs),
       length-append (textOf ns) (textOf rs),
-      map-length entryFrame (sizeOf S.Entry) (λ e. refl) (live (s .log)),
+      map-length (entryFrame widths1) (sizeOf widths1 S.Entry) (λ e. refl) (kept (s .log)),
       length-take (s .log .len) (s .log .entries),
       k .entries,
       notes-length 0 (s .mail .notes),
       slots,
-      map-length reportFrame (sizeOf S.Report) (λ e. refl) (queuedReports (s .mail .queue)),
+      map-length (reportFrame widths1) (sizeOf widths1 S.Report) (λ e. refl) (queuedReports (s .mail .queue)),
       length-take (s .mail .queue .len) (s .mail .queue .reports),
       k .reports,
     )
@@ -193,18 +167,18 @@ module _ (c : Cluster) (h : wellFormed c ≡ true) where
 abbrev AllSmall : List Server → Type 0
 AllSmall ss = (i : ℕ) → i < length ss → FitsServer (getD ss i pastServer) × Small (getD ss i pastServer)
 
-all-bytes : (ss : List Server) → AllSmall ss → AllBytes (allFrames ss)
-all-bytes [] h = all-none
-all-bytes (s ∷ ss) h = let k = h 0 (omega arith) in all-append (server-frames-bytes (k .0) (k .1)) (all-bytes ss (λ i l. h (suc i) (omega arith)))
+all-bytes : {w : Widths} → Lawful w → (ss : List Server) → AllSmall ss → AllBytes (allFrames w ss)
+all-bytes l [] h = all-none
+all-bytes l (s ∷ ss) h = let k = h 0 (omega arith) in all-append (server-frames-bytes l (k .0) (k .1)) (all-bytes l ss (λ i m. h (suc i) (omega arith)))
 
-all-length : (ss : List Server) → AllSmall ss → length (textOf (allFrames ss)) ≤ length ss * longestServer
+all-length : (ss : List Server) → AllSmall ss → length (textOf (allFrames widths1 ss)) ≤ length ss * longestServer
 all-length [] h = omega arith
 all-length (s ∷ ss) h =
     let k = h 0 (omega arith) in
     omega (
       arith,
-      ap length (text-append (serverFrames s) (allFrames ss)),
-      length-append (textOf (serverFrames s)) (textOf (allFrames ss)),
+      ap length (text-append (serverFrames widths1 s) (allFrames widths1 ss)),
+      length-append (textOf (serverFrames widths1 s)) (textOf (allFrames widths1 ss)),
       server-length (k .1) (k .0 .mail .slots),
       all-length ss (λ i l. h (suc i) (omega arith)),
     )
@@ -215,22 +189,30 @@ module _ (c : Cluster) (f : Fits c) (h : wellFormed c ≡ true) where
       let m : i < c .count = omega (arith, length-take (c .count) (c .servers)) in
       rw (getD-take (c .count) (c .servers) i pastServer m) (f .each i (omega (arith, at-most-seven c h)), small c h i m)
 
-  -- each of its frames is of bytes
-  pub frames-bytes : AllBytes (framesOf edition c)
-  frames-bytes = all-more (first-bytes edition (c .count) (omega arith) (omega (arith, at-most-seven c h))) (all-bytes (take (c .count) (c .servers)) counted)
+  module _ (e : Edition) (byte-number : e .number < byte) where
+    -- each of its frames is of bytes
+    pub frames-bytes : Lawful (e .widths) → AllBytes (framesOf e c)
+    frames-bytes l =
+        all-more (frame-bytes (e .widths) S.First _ (l .first (e .number) (c .count) byte-number (omega (arith, at-most-seven c h))))
+        (all-bytes l (take (c .count) (c .servers)) counted)
 
-  -- the bytes of the lines of its saved form are its frames
-  pub saved-frames : map bytesOf (lines (saveOf c)) ≡ framesOf edition c
-  unfolding saveOf
-  saved-frames = text-frames (framesOf edition c) frames-bytes
+    -- the bytes of the lines of its saved form are its frames
+    pub saved-frames : Lawful (e .widths) → map bytesOf (lines (savedAs e c)) ≡ framesOf e c
+    saved-frames l = text-frames (framesOf e c) (frames-bytes l)
 
-  pub saved-length : length (saveOf c) ≤ longest
-  unfolding saveOf
-  saved-length =
-      omega (
-        arith,
-        text-length (firstFrame edition (c .count)) (allFrames (take (c .count) (c .servers))),
-        all-length (take (c .count) (c .servers)) counted,
-        length-take (c .count) (c .servers),
-        at-most-seven c h,
-      )
+  -- no saved form is longer than the longest
+  pub saved-length : (e : Edition) → e .widths ≡ widths1 → length (savedAs e c) ≤ longest
+  saved-length e p = subst (λ (w : Widths). length (textOf (firstFrame w (e .number) (c .count) ∷ allFrames w ss)) ≤ longest) (sym p) short
+    where
+      ss : List Server
+      ss = take (c .count) (c .servers)
+
+      short : length (textOf (firstFrame widths1 (e .number) (c .count) ∷ allFrames widths1 ss)) ≤ longest
+      short =
+          omega (
+            arith,
+            text-length (firstFrame widths1 (e .number) (c .count)) (allFrames widths1 ss),
+            all-length ss counted,
+            length-take (c .count) (c .servers),
+            at-most-seven c h,
+          )

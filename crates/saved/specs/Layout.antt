@@ -1,33 +1,51 @@
--- The frames of a saved form, byte by byte, as docs/SAVED.md draws them: a byte that says which sort a frame is, and then its fields in
--- order. Assumes nothing.
+-- The frames of a saved form, byte by byte, as docs/SAVED.md draws them: a byte that says which sort a frame is, and then its numbers in order, in
+-- fields of the widths that an edition gives them. Assumes nothing.
 use mathlib.Core.Bool.{cond, not}
 use mathlib.Core.List.{List, [], _∷_}
-use Prim.Native.Nat.{ℕ}
-use lib.ListN.{length}
+use Prim.Native.Nat.{ℕ, suc, _+_}
 use Rattle.base.specs.Numbers.{count}
-use Rattle.words.specs.Words.{highOf, lowOf}
+use Rattle.words.specs.Words.{highOf, lowOf, byteAt, wordAt}
 use Rattle.log.specs.declared.Entry.{Entry}
-use Rattle.log.specs.Entries.{zeroEntry}
 use Rattle.mail.specs.declared.Report.{Report}
 use Rattle.mail.specs.declared.Note.{Note}
 use Rattle.mail.specs.declared.Mail.{Mail}
-use Rattle.mail.specs.Reports.{zeroReport, zeroNote, noteOf}
+use Rattle.mail.specs.Reports.{noteOf}
 use Rattle.mail.specs.Mails.{noteSlots, noteAt}
 use Rattle.mail.specs.Order.{isUnused}
 use Rattle.cluster.specs.declared.Server.{Server}
-use Rattle.cluster.specs.Servers.{zeroServer}
 use Rattle.saved.specs.declared.Sort.{Sort}
 use Rattle.saved.specs.declared.Sort.the-variants as S
 
--- a field of one byte, or of two, high byte first
-pub data Field : Type 0 where
-  one : ℕ → Field
-  two : ℕ → Field
+-- ---- fields
 
-abbrev pub bytesOfFields : List Field → List ℕ
-bytesOfFields [] = []
-bytesOfFields (one n ∷ fs) = n ∷ bytesOfFields fs
-bytesOfFields (two n ∷ fs) = highOf n ∷ lowOf n ∷ bytesOfFields fs
+-- a field has one byte, or two, high byte first
+pub data Width : Type 0 where
+  one : Width
+  two : Width
+
+-- the bytes of numbers, a field each
+abbrev pub fieldBytes : List Width → List ℕ → List ℕ
+fieldBytes [] ns = []
+fieldBytes (w ∷ ws) [] = []
+fieldBytes (one ∷ ws) (n ∷ ns) = n ∷ fieldBytes ws ns
+fieldBytes (two ∷ ws) (n ∷ ns) = highOf n ∷ lowOf n ∷ fieldBytes ws ns
+
+-- the numbers that bytes say, the first of which begins at place i
+abbrev pub saidFrom : List Width → List ℕ → ℕ → List ℕ
+saidFrom [] bs i = []
+saidFrom (one ∷ ws) bs i = byteAt bs i ∷ saidFrom ws bs (i + 1)
+saidFrom (two ∷ ws) bs i = wordAt bs i ∷ saidFrom ws bs (i + 2)
+
+abbrev pub sizeBy : List Width → ℕ
+sizeBy [] = 0
+sizeBy (one ∷ ws) = 1 + sizeBy ws
+sizeBy (two ∷ ws) = 2 + sizeBy ws
+
+-- ---- frames
+
+-- the fields of each sort of frames
+abbrev pub Widths : Type 0
+Widths = Sort → List Width
 
 abbrev pub sortNumber : Sort → ℕ
 sortNumber S.First = 0
@@ -36,42 +54,52 @@ sortNumber S.Entry = 2
 sortNumber S.Note = 3
 sortNumber S.Report = 4
 
-abbrev pub frame : Sort → List Field → List ℕ
-frame s fs = sortNumber s ∷ bytesOfFields fs
+abbrev pub frame : Widths → Sort → List ℕ → List ℕ
+frame w s ns = sortNumber s ∷ fieldBytes (w s) ns
+
+-- how many bytes a frame of each sort has, whatever it says
+abbrev pub sizeOf : Widths → Sort → ℕ
+sizeOf w s = suc (sizeBy (w s))
+
+-- the numbers that a frame's bytes say, and the one at place i; 0 where there is no such field
+abbrev pub numbersIn : Widths → Sort → List ℕ → List ℕ
+numbersIn w s bs = saidFrom (w s) bs 1
+
+abbrev pub said : Widths → Sort → List ℕ → ℕ → ℕ
+said w s bs i = byteAt (numbersIn w s bs) i
+
+-- ---- what they say
 
 -- the edition and the server count
-abbrev pub firstFrame : ℕ → ℕ → List ℕ
-firstFrame edition size = frame S.First (one edition ∷ one size ∷ [])
+abbrev pub firstFrame : Widths → ℕ → ℕ → List ℕ
+firstFrame w edition size = frame w S.First (edition ∷ size ∷ [])
 
 -- how many notes are used
 abbrev pub usedNotes : Mail → ℕ
 usedNotes m = count noteSlots (λ i. not (isUnused (noteAt m i)))
 
 -- what follows it: entries, used notes, reports; then the source, the role (1 is primary), term, commit point, wall clock, cluster time
-abbrev pub serverFrame : Server → List ℕ
-serverFrame s =
-    frame S.Server
-    (two (s .log .len) ∷ one (usedNotes (s .mail)) ∷ one (s .mail .queue .len) ∷ one (s .mail .source) ∷ one (cond (s .head .primary) 1 0)
-    ∷ two (s .head .term) ∷ two (s .head .commit) ∷ two (s .head .wall) ∷ two (s .head .time .p) ∷ two (s .head .time .l) ∷ [])
+abbrev pub serverNumbers : Server → List ℕ
+serverNumbers s =
+    s .log .len ∷ usedNotes (s .mail) ∷ s .mail .queue .len ∷ s .mail .source ∷ cond (s .head .primary) 1 0
+    ∷ s .head .term ∷ s .head .commit ∷ s .head .wall ∷ s .head .time .p ∷ s .head .time .l ∷ []
+
+abbrev pub serverFrame : Widths → Server → List ℕ
+serverFrame w s = frame w S.Server (serverNumbers s)
 
 -- term, key, value, time
-abbrev pub entryFrame : Entry → List ℕ
-entryFrame e = frame S.Entry (two (e .term) ∷ one (e .key) ∷ two (e .value) ∷ two (e .time .p) ∷ two (e .time .l) ∷ [])
+abbrev pub entryNumbers : Entry → List ℕ
+entryNumbers e = e .term ∷ e .key ∷ e .value ∷ e .time .p ∷ e .time .l ∷ []
+
+abbrev pub entryFrame : Widths → Entry → List ℕ
+entryFrame w e = frame w S.Entry (entryNumbers e)
 
 -- whose it is, term, last term, length
-abbrev pub toldFields : ℕ → Note → List Field
-toldFields who n = one who ∷ two (n .term) ∷ two (n .last) ∷ two (n .len) ∷ []
+abbrev pub toldNumbers : ℕ → Note → List ℕ
+toldNumbers who n = who ∷ n .term ∷ n .last ∷ n .len ∷ []
 
-abbrev pub noteFrame : ℕ → Note → List ℕ
-noteFrame who n = frame S.Note (toldFields who n)
+abbrev pub noteFrame : Widths → ℕ → Note → List ℕ
+noteFrame w who n = frame w S.Note (toldNumbers who n)
 
-abbrev pub reportFrame : Report → List ℕ
-reportFrame r = frame S.Report (toldFields (r .who) (noteOf r))
-
--- how many bytes a frame of each sort has, whatever it says
-abbrev pub sizeOf : Sort → ℕ
-sizeOf S.First = length (firstFrame 0 0)
-sizeOf S.Server = length (serverFrame zeroServer)
-sizeOf S.Entry = length (entryFrame zeroEntry)
-sizeOf S.Note = length (noteFrame 0 zeroNote)
-sizeOf S.Report = length (reportFrame zeroReport)
+abbrev pub reportFrame : Widths → Report → List ℕ
+reportFrame w r = frame w S.Report (toldNumbers (r .who) (noteOf r))

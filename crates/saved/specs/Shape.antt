@@ -6,44 +6,50 @@ use Prim.Native.Nat.{ℕ, _-_}
 use lib.Dec.{eqb}
 use lib.ListN.{length, getD, replicate}
 use Rattle.hex.specs.Lines.{bytesOf}
-use Rattle.words.specs.Words.{byteAt, wordAt, framed}
+use Rattle.words.specs.Words.{byteAt, framed}
 use Rattle.lines.specs.Texts.{lineFeed, lines}
 use Rattle.saved.specs.declared.Sort.{Sort}
 use Rattle.saved.specs.declared.Sort.the-variants as S
-use Rattle.saved.specs.Layout.{sortNumber, sizeOf}
-use Rattle.saved.specs.Saved.{edition}
-
--- an edition that can be read
-abbrev pub isKnown : ℕ → Bool
-isKnown e = eqb e edition
-
--- a first frame names its edition; the others have none
-abbrev pub editionOk : Sort → List ℕ → Bool
-editionOk S.First bs = isKnown (byteAt bs 1)
-editionOk S.Server bs = true
-editionOk S.Entry bs = true
-editionOk S.Note bs = true
-editionOk S.Report bs = true
+use Rattle.saved.specs.Layout.{Widths, sortNumber, sizeOf, said}
+use Rattle.saved.specs.Editions.{Edition, editions, isKnown, numbered}
 
 -- a line of the sort's length in hexadecimal, whose first byte says the sort
-unfoldable pub isFrame : Sort → List ℕ → Bool
-isFrame s line = framed (sizeOf s) (λ bs. eqb (byteAt bs 0) (sortNumber s) && editionOk s bs) false line
+unfoldable pub isFrame : Widths → Sort → List ℕ → Bool
+isFrame w s line = framed (sizeOf w s) (λ bs. eqb (byteAt bs 0) (sortNumber s)) false line
 
 -- the frames that a frame says will follow it
-abbrev pub announced : Sort → List ℕ → List Sort
-announced S.First bs = replicate (byteAt bs 2) S.Server
-announced S.Server bs = replicate (wordAt bs 1) S.Entry ++ (replicate (byteAt bs 3) S.Note ++ replicate (byteAt bs 4) S.Report)
-announced S.Entry bs = []
-announced S.Note bs = []
-announced S.Report bs = []
+abbrev pub announced : Widths → Sort → List ℕ → List Sort
+announced w S.First bs = replicate (said w S.First bs 1) S.Server
+announced w S.Server bs =
+    replicate (said w S.Server bs 0) S.Entry ++ (replicate (said w S.Server bs 1) S.Note ++ replicate (said w S.Server bs 2) S.Report)
+announced w S.Entry bs = []
+announced w S.Note bs = []
+announced w S.Report bs = []
 
 -- the lines are frames of the sorts that are expected, each followed by those that it announces; none is missing, none is left over
-abbrev pub shapedBy : List Sort → List (List ℕ) → Bool
-shapedBy [] [] = true
-shapedBy [] (l ∷ ls) = false
-shapedBy (s ∷ ss) [] = false
-shapedBy (s ∷ ss) (l ∷ ls) = isFrame s l && shapedBy (announced s (bytesOf l) ++ ss) ls
+abbrev pub shapedBy : Widths → List Sort → List (List ℕ) → Bool
+shapedBy w [] [] = true
+shapedBy w [] (l ∷ ls) = false
+shapedBy w (s ∷ ss) [] = false
+shapedBy w (s ∷ ss) (l ∷ ls) = isFrame w s l && shapedBy w (announced w s (bytesOf l) ++ ss) ls
 
--- the last line ends in a line feed, and the first is a first frame
-unfoldable pub shaped : List ℕ → Bool
-shaped text = eqb (getD text (length text - 1) 0) lineFeed && shapedBy (S.First ∷ []) (lines text)
+-- the edition that a first line names, in its second byte whatever the edition
+abbrev pub numberIn : List ℕ → ℕ
+numberIn line = byteAt (bytesOf line) 1
+
+-- the edition that a text names
+abbrev pub numberOf : List ℕ → ℕ
+numberOf text = numberIn (getD (lines text) 0 [])
+
+-- the first line is a first frame of an edition that is known, and all are frames of that edition
+abbrev pub shapedFirst : List Edition → List (List ℕ) → Bool
+shapedFirst knows [] = false
+shapedFirst knows (l ∷ ls) = isKnown knows (numberIn l) && shapedBy (numbered knows (numberIn l) .widths) (S.First ∷ []) (l ∷ ls)
+
+-- the last line ends in a line feed
+unfoldable pub shapedFor : List Edition → List ℕ → Bool
+shapedFor knows text = eqb (getD text (length text - 1) 0) lineFeed && shapedFirst knows (lines text)
+
+-- for a reader that knows all editions
+abbrev pub shaped : List ℕ → Bool
+shaped text = shapedFor editions text

@@ -1,5 +1,5 @@
 -- How a saved form is written into a buffer: frames by value, and what `save` gives and leaves. Assumes nothing.
-use mathlib.Core.Bool.{cond}
+use mathlib.Core.Bool.{cond, _&&_}
 use mathlib.Core.List.{List}
 use Prim.Native.Nat.{ℕ, _+_, _*_, _≤_}
 use mathlib.Core.Path.{_≡_}
@@ -13,18 +13,19 @@ use Rattle.cluster.specs.declared.Server.{Server}
 use Rattle.cluster.specs.declared.Cluster.{Cluster}
 use Rattle.cluster.specs.Servers.{mostServers}
 use Rattle.cluster.specs.WellFormed.{wellFormed}
-use Rattle.steps.specs.declared.Refusal.the-variants.{IllFormed}
+use Rattle.steps.specs.declared.Refusal.the-variants.{IllFormed, OutOfRange}
 use Rattle.lines.specs.Texts.{placed}
 use Rattle.saved.specs.declared.Sort.{Sort}
 use Rattle.saved.specs.declared.Sort.the-variants as S
 use Rattle.saved.specs.declared.Saved.{Saved}
 use Rattle.saved.specs.declared.Saved.the-variants.{Text, NoRoom, Refused}
 use Rattle.saved.specs.Layout.{sizeOf}
-use Rattle.saved.specs.Saved.{textOf, saveOf}
+use Rattle.saved.specs.Editions.{editions, newest, isKnown, numbered, hasForm}
+use Rattle.saved.specs.Saved.{textOf, savedAs, saveOf}
 
--- no frame has more bytes than a server's
+-- no frame of any edition has more bytes than a server's of the newest
 abbrev pub mostBytes : ℕ
-mostBytes = sizeOf S.Server
+mostBytes = sizeOf (newest .widths) S.Server
 
 -- out is out₀ with these frames written from a place on, as far as the next place, which is within it
 pub record Written (out₀ : List ℕ) (at₀ : ℕ) (out : List ℕ) (at : ℕ) (fs : List (List ℕ)) : Type 0 where
@@ -41,7 +42,7 @@ pub record Small (s : Server) : Type 0 where
 
 -- how long a frame's line is, and the longest saved forms of a server and of a record
 abbrev pub lineLength : Sort → ℕ
-lineLength s = chars * sizeOf s + 1
+lineLength s = chars * sizeOf (newest .widths) s + 1
 
 abbrev pub longestServer : ℕ
 longestServer = lineLength S.Server + logLimit * lineLength S.Entry + noteSlots * lineLength S.Note + queueLimit * lineLength S.Report
@@ -49,7 +50,19 @@ longestServer = lineLength S.Server + logLimit * lineLength S.Entry + noteSlots 
 abbrev pub longest : ℕ
 longest = lineLength S.First + mostServers * longestServer
 
--- an ill-formed record is refused; a buffer that hasn't room for the longest is left as it is
+-- in the edition of a number: one that isn't known is refused with 3, a record that it has no form for with 2; a buffer that hasn't room for the
+-- longest is left as it is
+unfoldable pub savedAsOf : ℕ → Cluster → ℕ → Saved
+savedAsOf n c room =
+    cond (isKnown editions n)
+    (cond (hasForm (numbered editions n) c) (cond (ltb room longest) NoRoom (Text (length (savedAs (numbered editions n) c)))) (Refused IllFormed))
+    (Refused OutOfRange)
+
+unfoldable pub savedAsOut : ℕ → Cluster → List ℕ → List ℕ
+savedAsOut n c out =
+    cond (isKnown editions n && hasForm (numbered editions n) c) (cond (ltb (length out) longest) out (placed out 0 (savedAs (numbered editions n) c))) out
+
+-- in the newest, which has a form for every well-formed record
 unfoldable pub savedOf : Cluster → ℕ → Saved
 savedOf c room = cond (wellFormed c) (cond (ltb room longest) NoRoom (Text (length (saveOf c)))) (Refused IllFormed)
 

@@ -1,17 +1,19 @@
 // The saved form of a record: lines of hexadecimal, a frame each, written into a buffer.
 ghost use mathlib.Core.Path.{_≡_};
-ghost use mathlib.Core.Bool.{true};
+ghost use mathlib.Core.Bool.{true, _&&_};
 ghost use mathlib.Core.List.{_∷_, [], map};
 ghost use Prim.Native.Nat.{_≤_, _<_, _+_, _*_};
 ghost use lib.ListN.{length, take};
 ghost use Rattle.base.specs.Numbers.{byte};
-ghost use Rattle.log.specs.Logs.{logLimit, live};
+ghost use Rattle.log.specs.Logs.{logLimit, kept};
 ghost use Rattle.mail.specs.Queues.{queueLimit};
 ghost use Rattle.cluster.specs.Servers.{mostServers};
 ghost use Rattle.cluster.specs.WellFormed.{wellFormed};
-ghost use Rattle.saved.specs.Layout.{bytesOfFields, sortNumber, usedNotes, firstFrame, serverFrame, entryFrame, toldFields, noteFrame, reportFrame};
-ghost use Rattle.saved.specs.Saved.{edition, noteFrames, queuedReports, serverFrames, allFrames, textOf};
-ghost use Rattle.saved.specs.Written.{Written, Small, longestServer, savedOf, savedOut};
+ghost use Rattle.saved.specs.Layout.{fieldBytes, sortNumber, usedNotes, firstFrame, serverFrame, entryFrame, toldNumbers, noteFrame, reportFrame};
+ghost use Rattle.saved.specs.Editions.{widths1, editions, isKnown, numbered, notesWithin, reportsWithin, allowsServer, allows, hasForm, limitsOf};
+ghost use Rattle.saved.specs.Saved.{noteFrames, queuedReports, serverFrames, allFrames, textOf};
+ghost use Rattle.saved.specs.Written.{Written, Small, longestServer, savedAsOf, savedAsOut, savedOf, savedOut};
+ghost use Rattle.saved.specs.declared.Sort.the-variants as S;
 use cluster::Cluster;
 use cluster::Server;
 use lines::LINE_FEED;
@@ -25,8 +27,13 @@ use steps::Refusal;
 use words::high;
 use words::low;
 
-// The edition that is written.
-pub const EDITION: u8 = 1;
+// The edition that is written, and the one before, which is read.
+pub const EDITION: u8 = 2;
+
+pub const EDITION_1: u8 = 1;
+
+// How many entries a log may have in edition 1, and the greatest length of a note or a report.
+const LIMIT_1: usize = 32;
 
 // How many bytes the frames have.
 pub const FIRST_BYTES: usize = 3;
@@ -72,6 +79,12 @@ pub enum Sort {
     Report,
 }
 
+// What the records of an edition may hold: entries in a log, and lengths in notes and reports.
+pub struct Limits {
+    pub entries: usize,
+    pub positions: usize,
+}
+
 // What a saving gives: a text of so many bytes, or why there is none.
 pub enum Saved {
     Text(usize),
@@ -91,12 +104,110 @@ pub fn sort_number(s: Sort) -> u8
     }
 }
 
-// The edition and the server count.
-fn first_frame(size: usize) -> [u8; FIRST_BYTES]
-    requires { ⌜ size < byte ⌝ }
-    ensures { λ r. ⌜ r ≡ firstFrame edition size ⌝ }
+// Whether a number is that of an edition that can be read and written.
+pub fn is_known(edition: u8) -> bool
+    ensures { λ r. ⌜ r ≡ isKnown editions edition ⌝ }
 {
-    [sort_number(Sort::First), EDITION, size as u8]
+    if edition == EDITION_1 {
+        return true;
+    }
+    edition == EDITION
+}
+
+// What the records of an edition may hold; of the newest where there is none of that number.
+pub fn limits_of(edition: u8) -> Limits
+    ensures { λ r. ⌜ r ≡ limitsOf (numbered editions edition) ⌝ }
+{
+    if edition == EDITION_1 {
+        return Limits {
+            entries: LIMIT_1,
+            positions: LIMIT_1,
+        };
+    }
+    Limits {
+        entries: log::LOG_LIMIT,
+        positions: log::HIGHEST_POSITION,
+    }
+}
+
+// Whether no note is of a greater length.
+fn notes_within(m: Mail, most: usize) -> bool
+    ensures { λ r. ⌜ r ≡ notesWithin most m ⌝ }
+{
+    let mut i = 0;
+    while i < mail::NOTE_SLOTS {
+        let n = m.notes[i];
+        if most < n.len as usize {
+            return false;
+        }
+        i += 1;
+    }
+    true
+}
+
+// Whether no report is of a greater length.
+fn reports_within(q: Queue, most: usize) -> bool
+    ensures { λ r. ⌜ r ≡ reportsWithin most q ⌝ }
+{
+    let mut i = 0;
+    while i < mail::QUEUE_LIMIT {
+        let r = q.reports[i];
+        if most < r.len as usize {
+            return false;
+        }
+        i += 1;
+    }
+    true
+}
+
+// Whether a server has no more than the edition allows.
+fn allows_server(edition: u8, s: Server) -> bool
+    ensures { λ r. ⌜ r ≡ allowsServer (numbered editions edition) s ⌝ }
+{
+    let most = limits_of(edition);
+    let g = s.log;
+    let m = s.mail;
+    let q = m.queue;
+    if most.entries < log::length_of(g) {
+        return false;
+    }
+    if !notes_within(m, most.positions) {
+        return false;
+    }
+    reports_within(q, most.positions)
+}
+
+// Whether a record has no more than the edition allows.
+pub fn allows(edition: u8, c: Cluster) -> bool
+    ensures { λ r. ⌜ r ≡ allows (numbered editions edition) c ⌝ }
+{
+    let mut i = 0;
+    while i < cluster::MOST_SERVERS {
+        let s = c.servers[i];
+        if !allows_server(edition, s) {
+            return false;
+        }
+        i += 1;
+    }
+    true
+}
+
+// Whether the edition has a form for a record.
+fn has_form(edition: u8, c: Cluster) -> bool
+    ensures { λ r. ⌜ r ≡ hasForm (numbered editions edition) c ⌝ }
+{
+    if !cluster::well_formed(c) {
+        return false;
+    }
+    allows(edition, c)
+}
+
+// The edition and the server count.
+fn first_frame(edition: u8, size: usize) -> [u8; FIRST_BYTES]
+    requires { ⌜ size < byte ⌝ }
+    ensures { λ r. ⌜ r ≡ firstFrame widths1 edition size ⌝ }
+{
+    [sort_number(Sort::First), edition, size as u8]
 }
 
 // How many notes are used.
@@ -118,7 +229,7 @@ fn used_notes(m: Mail) -> u8
 // What follows a server's frame, and then what the server keeps beside its log and its mail.
 fn server_frame(s: Server) -> [u8; SERVER_BYTES]
     requires { ⌜ Small s ⌝ }
-    ensures { λ r. ⌜ r ≡ serverFrame s ⌝ }
+    ensures { λ r. ⌜ r ≡ serverFrame widths1 s ⌝ }
 {
     let len = s.log.len as u16;
     let commit = s.head.commit as u16;
@@ -147,7 +258,7 @@ fn server_frame(s: Server) -> [u8; SERVER_BYTES]
 
 // Term, key, value, time.
 fn entry_frame(e: Entry) -> [u8; ENTRY_BYTES]
-    ensures { λ r. ⌜ r ≡ entryFrame e ⌝ }
+    ensures { λ r. ⌜ r ≡ entryFrame widths1 e ⌝ }
 {
     [
         sort_number(Sort::Entry),
@@ -165,7 +276,7 @@ fn entry_frame(e: Entry) -> [u8; ENTRY_BYTES]
 
 // A frame of this sort that tells whose note it is, and its term, last term and length.
 fn told_frame(sort: u8, who: u8, n: Note) -> [u8; TOLD_BYTES]
-    ensures { λ r. ⌜ r ≡ sort ∷ bytesOfFields (toldFields who n) ⌝ }
+    ensures { λ r. ⌜ r ≡ sort ∷ fieldBytes (widths1 S.Note) (toldNumbers who n) ⌝ }
 {
     [
         sort,
@@ -181,13 +292,13 @@ fn told_frame(sort: u8, who: u8, n: Note) -> [u8; TOLD_BYTES]
 
 fn note_frame(who: usize, n: Note) -> [u8; TOLD_BYTES]
     requires { ⌜ who < byte ⌝ }
-    ensures { λ r. ⌜ r ≡ noteFrame who n ⌝ }
+    ensures { λ r. ⌜ r ≡ noteFrame widths1 who n ⌝ }
 {
     told_frame(sort_number(Sort::Note), who as u8, n)
 }
 
 fn report_frame(r: Report) -> [u8; TOLD_BYTES]
-    ensures { λ o. ⌜ o ≡ reportFrame r ⌝ }
+    ensures { λ o. ⌜ o ≡ reportFrame widths1 r ⌝ }
 {
     told_frame(sort_number(Sort::Report), r.who, mail::note_of(r))
 }
@@ -206,8 +317,8 @@ fn put_line(out: &mut [u8], at: usize, frame: &[u8]) -> usize
 // A log's entries by position.
 fn put_entries(out: &mut [u8], at: usize, g: Log) -> usize
     requires { ⌜ g .len ≤ logLimit ⌝ }
-    requires { ⌜ at + length (textOf (map entryFrame (live g))) ≤ length (now out) ⌝ }
-    ensures { λ r. ⌜ Written (now (out .entry)) at (now (out .exit)) r (map entryFrame (live g)) ⌝ }
+    requires { ⌜ at + length (textOf (map (entryFrame widths1) (kept g))) ≤ length (now out) ⌝ }
+    ensures { λ r. ⌜ Written (now (out .entry)) at (now (out .exit)) r (map (entryFrame widths1) (kept g)) ⌝ }
 {
     let len = g.len;
     let mut w = at;
@@ -223,8 +334,8 @@ fn put_entries(out: &mut [u8], at: usize, g: Log) -> usize
 // The note about a server, where it is used.
 fn put_note(out: &mut [u8], at: usize, who: usize, n: Note) -> usize
     requires { ⌜ who < byte ⌝ }
-    requires { ⌜ at + length (textOf (noteFrames who (n ∷ []))) ≤ length (now out) ⌝ }
-    ensures { λ r. ⌜ Written (now (out .entry)) at (now (out .exit)) r (noteFrames who (n ∷ [])) ⌝ }
+    requires { ⌜ at + length (textOf (noteFrames widths1 who (n ∷ []))) ≤ length (now out) ⌝ }
+    ensures { λ r. ⌜ Written (now (out .entry)) at (now (out .exit)) r (noteFrames widths1 who (n ∷ [])) ⌝ }
 {
     if mail::is_unused(n) {
         return at;
@@ -235,8 +346,8 @@ fn put_note(out: &mut [u8], at: usize, who: usize, n: Note) -> usize
 
 // The used notes by server number.
 fn put_notes(out: &mut [u8], at: usize, m: Mail) -> usize
-    requires { ⌜ at + length (textOf (noteFrames 0 (m .notes))) ≤ length (now out) ⌝ }
-    ensures { λ r. ⌜ Written (now (out .entry)) at (now (out .exit)) r (noteFrames 0 (m .notes)) ⌝ }
+    requires { ⌜ at + length (textOf (noteFrames widths1 0 (m .notes))) ≤ length (now out) ⌝ }
+    ensures { λ r. ⌜ Written (now (out .entry)) at (now (out .exit)) r (noteFrames widths1 0 (m .notes)) ⌝ }
 {
     let mut w = at;
     let mut i = 0;
@@ -250,8 +361,8 @@ fn put_notes(out: &mut [u8], at: usize, m: Mail) -> usize
 // A queue's reports, oldest first.
 fn put_reports(out: &mut [u8], at: usize, q: Queue) -> usize
     requires { ⌜ q .len ≤ queueLimit ⌝ }
-    requires { ⌜ at + length (textOf (map reportFrame (queuedReports q))) ≤ length (now out) ⌝ }
-    ensures { λ r. ⌜ Written (now (out .entry)) at (now (out .exit)) r (map reportFrame (queuedReports q)) ⌝ }
+    requires { ⌜ at + length (textOf (map (reportFrame widths1) (queuedReports q))) ≤ length (now out) ⌝ }
+    ensures { λ r. ⌜ Written (now (out .entry)) at (now (out .exit)) r (map (reportFrame widths1) (queuedReports q)) ⌝ }
 {
     let len = q.len;
     let mut w = at;
@@ -268,7 +379,7 @@ fn put_reports(out: &mut [u8], at: usize, q: Queue) -> usize
 fn put_server(out: &mut [u8], at: usize, s: Server) -> usize
     requires { ⌜ Small s ⌝ }
     requires { ⌜ at + longestServer ≤ length (now out) ⌝ }
-    ensures frames { λ r. ⌜ Written (now (out .entry)) at (now (out .exit)) r (serverFrames s) ⌝ }
+    ensures frames { λ r. ⌜ Written (now (out .entry)) at (now (out .exit)) r (serverFrames widths1 s) ⌝ }
     ensures short { λ r. ⌜ r ≤ at + longestServer ⌝ }
 {
     let f = server_frame(s);
@@ -285,7 +396,7 @@ fn put_server(out: &mut [u8], at: usize, s: Server) -> usize
 fn put_servers(out: &mut [u8], at: usize, c: Cluster) -> usize
     requires { ⌜ wellFormed c ≡ true ⌝ }
     requires { ⌜ at + mostServers * longestServer ≤ length (now out) ⌝ }
-    ensures { λ r. ⌜ Written (now (out .entry)) at (now (out .exit)) r (allFrames (take (c .count) (c .servers))) ⌝ }
+    ensures { λ r. ⌜ Written (now (out .entry)) at (now (out .exit)) r (allFrames widths1 (take (c .count) (c .servers))) ⌝ }
 {
     let count = c.count;
     let mut w = at;
@@ -297,19 +408,31 @@ fn put_servers(out: &mut [u8], at: usize, c: Cluster) -> usize
     w
 }
 
-// Writes the saved form of a record at the buffer's beginning, where the record is well formed and the longest has room.
-pub fn save(c: Cluster, out: &mut [u8]) -> Saved
-    ensures result { λ r. ⌜ r ≡ savedOf c (length (now (out .entry))) ⌝ }
-    ensures output { λ _. ⌜ now (out .exit) ≡ savedOut c (now (out .entry)) ⌝ }
+// Writes the saved form of a record in an edition at the buffer's beginning, where the edition is known and has a form for it, and the longest has
+// room.
+pub fn save_as(edition: u8, c: Cluster, out: &mut [u8]) -> Saved
+    ensures result { λ r. ⌜ r ≡ savedAsOf edition c (length (now (out .entry))) ⌝ }
+    ensures output { λ _. ⌜ now (out .exit) ≡ savedAsOut edition c (now (out .entry)) ⌝ }
 {
-    if !cluster::well_formed(c) {
+    if !is_known(edition) {
+        return Saved::Refused(Refusal::OutOfRange);
+    }
+    if !has_form(edition, c) {
         return Saved::Refused(Refusal::IllFormed);
     }
     if out.len() < LONGEST {
         return Saved::NoRoom;
     }
-    let f = first_frame(c.count);
+    let f = first_frame(edition, c.count);
     let past = put_line(out, 0, &f);
     let end = put_servers(out, past, c);
     Saved::Text(end)
+}
+
+// The same in the newest edition, which has a form for every well-formed record.
+pub fn save(c: Cluster, out: &mut [u8]) -> Saved
+    ensures result { λ r. ⌜ r ≡ savedOf c (length (now (out .entry))) ⌝ }
+    ensures output { λ _. ⌜ now (out .exit) ≡ savedOut c (now (out .entry)) ⌝ }
+{
+    save_as(EDITION, c, out)
 }

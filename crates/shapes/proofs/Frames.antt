@@ -1,6 +1,6 @@
 -- No frame is longer than what is kept, and what is read of its bytes is the same where zeros follow them. Assumes nothing.
 use mathlib.Core.Path.{_≡_, refl, ap, _∙_}
-use mathlib.Core.Bool.{Bool, _&&_}
+use mathlib.Core.Bool.{Bool}
 use mathlib.Core.List.{List, [], _∷_, _++_}
 use Prim.Native.Nat.{ℕ, zero, suc, _*_, _≤_, min}
 use native.Mathlib.Omega.{arith}
@@ -13,18 +13,15 @@ use Rattle.hex.proofs.Places.{bytes-length}
 use Rattle.words.specs.Words.{byteAt}
 use Rattle.saved.specs.declared.Sort.{Sort}
 use Rattle.saved.specs.declared.Sort.the-variants as S
-use Rattle.saved.specs.Layout.{sortNumber, sizeOf}
-use Rattle.saved.specs.Shape.{editionOk}
+use Rattle.saved.specs.Layout.{Widths, sortNumber, sizeOf}
 use Rattle.saved.specs.Written.{mostBytes}
+use Rattle.saved.proofs.Fields.{said-same}
+use Rattle.saved.proofs.Lawful.{Lawful}
 use Rattle.shapes.specs.declared.Left.{Left}
-use Rattle.shapes.specs.Walk.{keptChars, leftAfter}
+use Rattle.shapes.specs.Walk.{keptChars, editionFor, leftAfter}
 
-pub small : (k : Sort) → chars * sizeOf k ≤ keptChars
-small S.First = omega arith
-small S.Server = omega arith
-small S.Entry = omega arith
-small S.Note = omega arith
-small S.Report = omega arith
+pub small : {w : Widths} → Lawful w → (k : Sort) → chars * sizeOf w k ≤ keptChars
+small l k = omega (arith, l .small k)
 
 zeros : ℕ → List ℕ
 zeros n = replicate n 0
@@ -40,7 +37,7 @@ then-zeros [] zs h i = h i
 then-zeros (b ∷ bs) zs h zero = refl
 then-zeros (b ∷ bs) zs h (suc i) = then-zeros bs zs h i
 
-over-zeros : (n : ℕ) (bs : List ℕ) → length bs ≤ n → (i : ℕ) → byteAt (over bs (replicate n 0)) i ≡ byteAt bs i
+pub over-zeros : (n : ℕ) (bs : List ℕ) → length bs ≤ n → (i : ℕ) → byteAt (over bs (replicate n 0)) i ≡ byteAt bs i
 unfolding zeros
 over-zeros n bs h i =
     let m : min (length bs) (length (zeros n)) ≡ length bs = omega (arith, length-replicate {A = ℕ} n 0) in
@@ -53,22 +50,19 @@ bytes-same line bs h e i = ap (λ (x : List ℕ). byteAt x i) e ∙ over-zeros m
 
 -- what a frame says of itself
 abbrev pub saysSo : Sort → List ℕ → Bool
-saysSo k bs = eqb (byteAt bs 0) (sortNumber k) && editionOk k bs
+saysSo k bs = eqb (byteAt bs 0) (sortNumber k)
 
 module _ (bs cs : List ℕ) (same : (i : ℕ) → byteAt bs i ≡ byteAt cs i) where
-  edition-same : (k : Sort) → editionOk k bs ≡ editionOk k cs
-  edition-same S.First = rw (same 1)
-  edition-same S.Server = refl
-  edition-same S.Entry = refl
-  edition-same S.Note = refl
-  edition-same S.Report = refl
+  pub edition-same : (k : Sort) (n : ℕ) → editionFor k n bs ≡ editionFor k n cs
+  edition-same S.First n = same 1
+  edition-same S.Server n = refl
+  edition-same S.Entry n = refl
+  edition-same S.Note n = refl
+  edition-same S.Report n = refl
 
-  pub says-same : (k : Sort) → saysSo k bs ≡ saysSo k cs
-  says-same k = ap (λ (n : ℕ). eqb n (sortNumber k) && editionOk k bs) (same 0) ∙ ap (λ (t : Bool). eqb (byteAt cs 0) (sortNumber k) && t) (edition-same k)
-
-  pub left-same : (k : Sort) (l : Left) → leftAfter k bs l ≡ leftAfter k cs l
-  left-same S.First l = rw (same 2)
-  left-same S.Server l = rw (same 1, same 2, same 3, same 4)
-  left-same S.Entry l = refl
-  left-same S.Note l = refl
-  left-same S.Report l = refl
+  pub left-same : (w : Widths) (k : Sort) (l : Left) → leftAfter w k bs l ≡ leftAfter w k cs l
+  left-same w S.First l = cc (same 1, said-same bs cs same (w S.First) 1)
+  left-same w S.Server l = cc (said-same bs cs same (w S.Server) 1)
+  left-same w S.Entry l = refl
+  left-same w S.Note l = refl
+  left-same w S.Report l = refl

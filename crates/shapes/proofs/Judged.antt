@@ -9,44 +9,60 @@ use Rattle.hex.specs.Lines.{bytesOf, over}
 use Rattle.lines.specs.Held.{nothingRead}
 use Rattle.lines.proofs.Held.{held-over, held-past, held-within}
 use Rattle.saved.specs.declared.Sort.{Sort}
-use Rattle.saved.specs.Layout.{sizeOf}
+use Rattle.saved.specs.Layout.{Widths, sizeOf}
+use Rattle.saved.specs.Editions.{editions, widths1}
 use Rattle.saved.specs.Shape.{isFrame}
 use Rattle.saved.specs.Written.{mostBytes}
+use Rattle.saved.proofs.Lawful.{both-same}
 use Rattle.shapes.specs.declared.Shape.{Shape}
 use Rattle.shapes.specs.declared.Due.{Due}
 use Rattle.shapes.specs.declared.Due.the-variants.{Frame, End}
 use Rattle.lines.specs.Texts.{oneMore}
-use Rattle.shapes.specs.Walk.{keptChars, frameReader, dueOf, shapeHeld, brokenAt, nextLine, endedAs, lineEnded}
+use Rattle.shapes.specs.Walk.{keptChars, frameReader, dueOf, editionFor, shapeHeld, brokenAt, nextLine, isNext, endedAs, lineEnded}
 use Rattle.shapes.proofs.Frames.{small, bytes-same, saysSo, left-same}
+use Rattle.shapes.proofs.Next.{next-none, reads-all}
 
 module _ (s : Shape) where
   pub judged-end : dueOf (s .left) ≡ End → brokenAt s ≡ lineEnded s
   unfolding endedAs
-  judged-end e = sym (ap (λ (d : Due). endedAs d s) e)
+  judged-end e = sym (ap (λ (d : Due). endedAs editions d s) e)
 
   module _ (k : Sort) (due : dueOf (s .left) ≡ Frame k) where
-    by-test : (t : Bool) → isFrame k (shapeHeld s) ≡ t → cond t (nextLine k (bytesOf (shapeHeld s)) s) (brokenAt s) ≡ lineEnded s
+    abbrev next : List ℕ → Bool
+    next line = isNext editions k (s .left .edition) line
+
+    by-test : (t : Bool) → next (shapeHeld s) ≡ t → cond t (nextLine widths1 k (bytesOf (shapeHeld s)) s) (brokenAt s) ≡ lineEnded s
     unfolding endedAs
     by-test t e =
-        sym (ap (λ (d : Due). endedAs d s) due ∙ ap (λ (x : Bool). cond x (nextLine k (bytesOf (shapeHeld s)) s) (brokenAt s)) e)
+        sym
+        (ap (λ (d : Due). endedAs editions d s) due
+        ∙ ap (λ (w : Widths). cond (next (shapeHeld s)) (nextLine w k (bytesOf (shapeHeld s)) s) (brokenAt s)) (both-same (editionFor k (s .left .edition) (bytesOf (shapeHeld s))))
+        ∙ ap (λ (x : Bool). cond x (nextLine widths1 k (bytesOf (shapeHeld s)) s) (brokenAt s)) e)
 
+    -- too long, by its flag or by its fill: a frame in no edition
     pub judged-over : s .reader .over ≡ true → brokenAt s ≡ lineEnded s
     unfolding isFrame
-    judged-over e = by-test false (sym (held-over (sizeOf k) (saysSo k) false keptChars (small k) (s .reader .held) (s .reader .fill) (s .reader .over) e))
+    judged-over e =
+        by-test false
+        (next-none editions reads-all k (s .left .edition) (shapeHeld s)
+        (λ w f. sym (held-over (sizeOf w k) (saysSo k) false keptChars (small f k) (s .reader .held) (s .reader .fill) (s .reader .over) e)))
 
     pub judged-past : keptChars < s .reader .fill → brokenAt s ≡ lineEnded s
     unfolding isFrame
-    judged-past h = by-test false (sym (held-past (sizeOf k) (saysSo k) false keptChars (small k) (s .reader .held) (s .reader .fill) (s .reader .over) h))
+    judged-past h =
+        by-test false
+        (next-none editions reads-all k (s .left .edition) (shapeHeld s)
+        (λ w f. sym (held-past (sizeOf w k) (saysSo k) false keptChars (small f k) (s .reader .held) (s .reader .fill) (s .reader .over) h)))
 
     module _ (o : s .reader .over ≡ false) (h : s .reader .fill ≤ keptChars) where
-      pub judged-other : isFrame k (take (s .reader .fill) (s .reader .held)) ≡ false → brokenAt s ≡ lineEnded s
-      judged-other e = by-test false (ap (isFrame k) (sym (held-within keptChars (s .reader .held) (s .reader .fill) (s .reader .over) o h)) ∙ e)
+      pub judged-other : next (take (s .reader .fill) (s .reader .held)) ≡ false → brokenAt s ≡ lineEnded s
+      judged-other e = by-test false (ap next (sym (held-within keptChars (s .reader .held) (s .reader .fill) (s .reader .over) o h)) ∙ e)
 
-      pub judged-frame : (q : Shape) (bs : List ℕ) → isFrame k (take (s .reader .fill) (s .reader .held)) ≡ true
-          → bs ≡ over (bytesOf (take (s .reader .fill) (s .reader .held))) (replicate mostBytes 0) → q ≡ nextLine k bs s → q ≡ lineEnded s
+      pub judged-frame : (q : Shape) (bs : List ℕ) → next (take (s .reader .fill) (s .reader .held)) ≡ true
+          → bs ≡ over (bytesOf (take (s .reader .fill) (s .reader .held))) (replicate mostBytes 0) → q ≡ nextLine widths1 k bs s → q ≡ lineEnded s
       judged-frame q bs e f g =
           let line = take (s .reader .fill) (s .reader .held) in
           let held : line ≡ shapeHeld s = held-within keptChars (s .reader .held) (s .reader .fill) (s .reader .over) o h in
-          let same = left-same bs (bytesOf line) (bytes-same line bs (omega (arith, length-take (s .reader .fill) (s .reader .held))) f) k (s .left) in
+          let same = left-same bs (bytesOf line) (bytes-same line bs (omega (arith, length-take (s .reader .fill) (s .reader .held))) f) widths1 k (s .left) in
           g ∙ (λ i. record { left = same i; reader = nothingRead keptChars frameReader; number = oneMore (s .number); broken = s .broken })
-          ∙ ap (λ (x : List ℕ). nextLine k (bytesOf x) s) held ∙ by-test true (ap (isFrame k) (sym held) ∙ e)
+          ∙ ap (λ (x : List ℕ). nextLine widths1 k (bytesOf x) s) held ∙ by-test true (ap next (sym held) ∙ e)

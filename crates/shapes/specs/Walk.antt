@@ -1,16 +1,18 @@
--- A text byte by byte: how many frames are still announced, and the line that is being read. Nobody has to believe this: by `told` it comes
--- to `shaped`. Assumes nothing.
+-- A text byte by byte, for a reader that knows some editions: how many frames are still announced, and the line that is being read. Nobody has to
+-- believe this: by `told` it comes to `shapedFor`. Assumes nothing.
 use mathlib.Core.Bool.{Bool, true, false, cond, not, _&&_}
 use mathlib.Core.List.{List, [], _∷_, _++_}
 use Prim.Native.Nat.{ℕ, _-_, _*_}
 use lib.Dec.{eqb, ltb}
 use lib.ListN.{replicate}
 use Rattle.hex.specs.Lines.{chars, bytesOf}
-use Rattle.words.specs.Words.{byteAt, wordAt}
+use Rattle.words.specs.Words.{byteAt}
 use Rattle.lines.specs.Held.{heldLine, nothingHeld, nothingRead, pushed}
 use Rattle.lines.specs.Texts.{lineFeed, oneMore}
 use Rattle.saved.specs.declared.Sort.{Sort}
 use Rattle.saved.specs.declared.Sort.the-variants as S
+use Rattle.saved.specs.Layout.{Widths, said}
+use Rattle.saved.specs.Editions.{Edition, editions, isKnown, numbered}
 use Rattle.saved.specs.Shape.{isFrame}
 use Rattle.saved.specs.Written.{mostBytes}
 use Rattle.shapes.specs.declared.Left.{Left}
@@ -34,19 +36,17 @@ framePush r b = pushed keptChars frameReader (r .held) (r .fill) (r .over) b
 abbrev pub freshShape : Shape
 freshShape =
     record {
-      left = record { begun = false; servers = 0; entries = 0; notes = 0; reports = 0 };
+      left = record { begun = false; edition = 0; servers = 0; entries = 0; notes = 0; reports = 0 };
       reader = nothingRead keptChars frameReader;
       number = 1;
       broken = false;
     }
 
--- the sorts of the frames that are left, in order
+-- the sorts of the frames that are left after the first, in order
 abbrev pub todo : Left → List Sort
 todo l =
-    cond (l .begun)
-    (replicate (l .entries) S.Entry
-    ++ (replicate (l .notes) S.Note ++ (replicate (l .reports) S.Report ++ replicate (l .servers) S.Server)))
-    (S.First ∷ [])
+    replicate (l .entries) S.Entry
+    ++ (replicate (l .notes) S.Note ++ (replicate (l .reports) S.Report ++ replicate (l .servers) S.Server))
 
 -- what is due next
 unfoldable pub dueOf : Left → Due
@@ -57,14 +57,33 @@ dueOf l =
     (cond (ltb 0 (l .reports)) (Frame S.Report) (cond (ltb 0 (l .servers)) (Frame S.Server) End))))
     (Frame S.First)
 
+-- the edition of a frame: a first frame names its own, the others' is the text's
+abbrev pub editionFor : Sort → ℕ → List ℕ → ℕ
+editionFor S.First n bs = byteAt bs 1
+editionFor S.Server n bs = n
+editionFor S.Entry n bs = n
+editionFor S.Note n bs = n
+editionFor S.Report n bs = n
+
 -- what is left after a frame of a sort with these bytes
-abbrev pub leftAfter : Sort → List ℕ → Left → Left
-leftAfter S.First bs l = record { begun = true; servers = byteAt bs 2; entries = 0; notes = 0; reports = 0 }
-leftAfter S.Server bs l =
-    record { begun = l .begun; servers = l .servers - 1; entries = wordAt bs 1; notes = byteAt bs 3; reports = byteAt bs 4 }
-leftAfter S.Entry bs l = record { begun = l .begun; servers = l .servers; entries = l .entries - 1; notes = l .notes; reports = l .reports }
-leftAfter S.Note bs l = record { begun = l .begun; servers = l .servers; entries = l .entries; notes = l .notes - 1; reports = l .reports }
-leftAfter S.Report bs l = record { begun = l .begun; servers = l .servers; entries = l .entries; notes = l .notes; reports = l .reports - 1 }
+abbrev pub leftAfter : Widths → Sort → List ℕ → Left → Left
+leftAfter w S.First bs l =
+    record { begun = true; edition = byteAt bs 1; servers = said w S.First bs 1; entries = 0; notes = 0; reports = 0 }
+leftAfter w S.Server bs l =
+    record {
+      begun = l .begun;
+      edition = l .edition;
+      servers = l .servers - 1;
+      entries = said w S.Server bs 0;
+      notes = said w S.Server bs 1;
+      reports = said w S.Server bs 2;
+    }
+leftAfter w S.Entry bs l =
+    record { begun = l .begun; edition = l .edition; servers = l .servers; entries = l .entries - 1; notes = l .notes; reports = l .reports }
+leftAfter w S.Note bs l =
+    record { begun = l .begun; edition = l .edition; servers = l .servers; entries = l .entries; notes = l .notes - 1; reports = l .reports }
+leftAfter w S.Report bs l =
+    record { begun = l .begun; edition = l .edition; servers = l .servers; entries = l .entries; notes = l .notes; reports = l .reports - 1 }
 
 -- the line that is held, and with one character more
 abbrev pub shapeHeld : Shape → List ℕ
@@ -81,30 +100,46 @@ abbrev pub brokenAt : Shape → Shape
 brokenAt s = record { left = s .left; reader = s .reader; number = s .number; broken = true }
 
 -- a line came with these bytes, and the next one begins
-abbrev pub nextLine : Sort → List ℕ → Shape → Shape
-nextLine k bs s =
+abbrev pub nextLine : Widths → Sort → List ℕ → Shape → Shape
+nextLine w k bs s =
     record {
-      left = leftAfter k bs (s .left);
+      left = leftAfter w k bs (s .left);
       reader = nothingRead keptChars frameReader;
       number = oneMore (s .number);
       broken = s .broken;
     }
 
--- at a line feed, by what is due
-unfoldable pub endedAs : Due → Shape → Shape
-endedAs (Frame k) s = cond (isFrame k (shapeHeld s)) (nextLine k (bytesOf (shapeHeld s)) s) (brokenAt s)
-endedAs End s = brokenAt s
+module _ (knows : List Edition) where
+  -- a line is a frame of the sort in its edition, where that is known
+  unfoldable pub isNext : Sort → ℕ → List ℕ → Bool
+  isNext k n line =
+      let m = editionFor k n (bytesOf line) in
+      isKnown knows m && isFrame (numbered knows m .widths) k line
 
+  -- at a line feed, by what is due
+  unfoldable pub endedAs : Due → Shape → Shape
+  endedAs (Frame k) s =
+      let line = shapeHeld s in
+      cond (isNext k (s .left .edition) line) (nextLine (numbered knows (editionFor k (s .left .edition) (bytesOf line)) .widths) k (bytesOf line) s) (brokenAt s)
+  endedAs End s = brokenAt s
+
+  abbrev pub lineEndedFor : Shape → Shape
+  lineEndedFor s = endedAs (dueOf (s .left)) s
+
+  -- after one byte; once broken it stays as it is
+  unfoldable pub shapeAfter : Shape → ℕ → Shape
+  shapeAfter s b = cond (s .broken) s (cond (eqb b lineFeed) (lineEndedFor s) (shapePush s b))
+
+  abbrev pub walkedFor : Shape → List ℕ → Shape
+  walkedFor s [] = s
+  walkedFor s (b ∷ bs) = walkedFor (shapeAfter s b) bs
+
+-- for a reader that knows all editions
 abbrev pub lineEnded : Shape → Shape
-lineEnded s = endedAs (dueOf (s .left)) s
-
--- after one byte; once broken it stays as it is
-unfoldable pub shapeAfter : Shape → ℕ → Shape
-shapeAfter s b = cond (s .broken) s (cond (eqb b lineFeed) (lineEnded s) (shapePush s b))
+lineEnded s = lineEndedFor editions s
 
 abbrev pub walked : Shape → List ℕ → Shape
-walked s [] = s
-walked s (b ∷ bs) = walked (shapeAfter s b) bs
+walked s text = walkedFor editions s text
 
 abbrev pub isEnd : Due → Bool
 isEnd (Frame k) = false

@@ -7,19 +7,20 @@ ghost use lib.ListN.{replicate};
 ghost use Rattle.hex.specs.Lines.{bytesOf, over};
 ghost use Rattle.words.specs.Words.{byteAt};
 ghost use Rattle.saved.specs.Layout.{sortNumber, sizeOf};
-ghost use Rattle.saved.specs.Shape.{editionOk, isFrame};
+ghost use Rattle.saved.specs.Editions.{widths1, editions, isKnown};
 ghost use Rattle.saved.specs.Written.{mostBytes};
 ghost use Rattle.lines.specs.Held.{nothingRead, onlyLong};
-ghost use Rattle.shapes.specs.Walk.{keptChars, frameReader, framePush, shapePush, freshShape, dueOf, leftAfter, brokenAt, nextLine, lineEnded, walked, isShaped};
+ghost use Rattle.shapes.specs.Walk.{keptChars, frameReader, framePush, shapePush, freshShape, dueOf, editionFor, leftAfter, isNext, brokenAt, nextLine, lineEnded, walked, isShaped};
 use saved::Sort;
 use words::word;
 
 // The characters of the longest frame.
 pub const MOST_CHARS: usize = hex::CHARS * saved::SERVER_BYTES;
 
-// The frames that are still announced, and whether the first frame, which announces the servers, was read.
+// The frames that are still announced, and whether the first frame, which names the edition and announces the servers, was read.
 pub struct Left {
     pub begun: bool,
+    pub edition: u8,
     pub servers: usize,
     pub entries: usize,
     pub notes: usize,
@@ -48,8 +49,9 @@ pub enum Due {
     End,
 }
 
+// How many bytes a frame of the sort has, in every edition that is known.
 fn size_of(k: Sort) -> usize
-    ensures { λ r. ⌜ r ≡ sizeOf k ⌝ }
+    ensures { λ r. ⌜ r ≡ sizeOf widths1 k ⌝ }
 {
     match k {
         Sort::First => saved::FIRST_BYTES,
@@ -60,15 +62,16 @@ fn size_of(k: Sort) -> usize
     }
 }
 
-fn edition_ok(k: Sort, b: [u8; saved::SERVER_BYTES]) -> bool
-    ensures { λ r. ⌜ r ≡ editionOk k b ⌝ }
+// The edition of a frame with these bytes: a first frame names its own, the others' is the text's.
+fn edition_for(k: Sort, edition: u8, b: [u8; saved::SERVER_BYTES]) -> u8
+    ensures { λ r. ⌜ r ≡ editionFor k edition b ⌝ }
 {
     match k {
-        Sort::First => b[1] == saved::EDITION,
-        Sort::Server => true,
-        Sort::Entry => true,
-        Sort::Note => true,
-        Sort::Report => true,
+        Sort::First => b[1],
+        Sort::Server => edition,
+        Sort::Entry => edition,
+        Sort::Note => edition,
+        Sort::Report => edition,
     }
 }
 
@@ -81,19 +84,19 @@ fn bytes_in(line: &[u8]) -> [u8; saved::SERVER_BYTES]
     b
 }
 
-// Whether a frame with these bytes says that it is of the sort.
-fn says(k: Sort, b: [u8; saved::SERVER_BYTES]) -> bool
-    ensures { λ r. ⌜ r ≡ (eqb (byteAt b 0) (sortNumber k) && editionOk k b) ⌝ }
+// Whether a frame with these bytes says that it is of the sort, in an edition that is known.
+fn says(k: Sort, edition: u8, b: [u8; saved::SERVER_BYTES]) -> bool
+    ensures { λ r. ⌜ r ≡ (eqb (byteAt b 0) (sortNumber k) && isKnown editions (editionFor k edition b)) ⌝ }
 {
     if b[0] != saved::sort_number(k) {
         return false;
     }
-    edition_ok(k, b)
+    saved::is_known(edition_for(k, edition, b))
 }
 
-// Whether the line is a frame of the sort.
-fn is_frame(k: Sort, line: &[u8]) -> bool
-    ensures { λ r. ⌜ r ≡ isFrame k (now (line .entry)) ⌝ }
+// Whether the line is a frame of the sort in its edition.
+fn is_next(k: Sort, edition: u8, line: &[u8]) -> bool
+    ensures { λ r. ⌜ r ≡ isNext editions k edition (now (line .entry)) ⌝ }
 {
     if line.len() != hex::CHARS * size_of(k) {
         return false;
@@ -102,7 +105,7 @@ fn is_frame(k: Sort, line: &[u8]) -> bool
         return false;
     }
     let b = bytes_in(line);
-    says(k, b)
+    says(k, edition, b)
 }
 
 fn one_less(n: usize) -> usize
@@ -116,11 +119,12 @@ fn one_less(n: usize) -> usize
 
 // What is left after a frame of the sort with these bytes.
 fn left_after(k: Sort, b: [u8; saved::SERVER_BYTES], l: Left) -> Left
-    ensures { λ r. ⌜ r ≡ leftAfter k b l ⌝ }
+    ensures { λ r. ⌜ r ≡ leftAfter widths1 k b l ⌝ }
 {
     match k {
         Sort::First => Left {
             begun: true,
+            edition: b[1],
             servers: b[2] as usize,
             entries: 0,
             notes: 0,
@@ -128,6 +132,7 @@ fn left_after(k: Sort, b: [u8; saved::SERVER_BYTES], l: Left) -> Left
         },
         Sort::Server => Left {
             begun: l.begun,
+            edition: l.edition,
             servers: one_less(l.servers),
             entries: word(b[1], b[2]) as usize,
             notes: b[3] as usize,
@@ -214,6 +219,7 @@ pub fn begin() -> Shape
     Shape {
         left: Left {
             begun: false,
+            edition: 0,
             servers: 0,
             entries: 0,
             notes: 0,
@@ -243,7 +249,7 @@ fn broken_at(s: Shape) -> Shape
 
 // A frame of the sort came with these bytes, and the next line begins.
 fn next_line(k: Sort, b: [u8; saved::SERVER_BYTES], s: Shape) -> Shape
-    ensures { λ r. ⌜ r ≡ nextLine k b s ⌝ }
+    ensures { λ r. ⌜ r ≡ nextLine widths1 k b s ⌝ }
 {
     let l = s.left;
     let left = left_after(k, b, l);
@@ -272,7 +278,7 @@ fn line_ended(s: Shape) -> Shape
     }
     let r = s.reader;
     let h = r.held;
-    if !is_frame(k, &h[..n]) {
+    if !is_next(k, s.left.edition, &h[..n]) {
         return broken_at(s);
     }
     let b = bytes_in(&h[..n]);

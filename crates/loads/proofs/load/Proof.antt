@@ -1,42 +1,59 @@
 -- `loads::load` meets its contract. Assumes nothing.
-use mathlib.Core.Path.{_≡_, refl, sym, ap, _∙_}
+use mathlib.Core.Path.{_≡_, refl, sym, ap, subst, _∙_}
 use mathlib.Core.Bool.{Bool, true, false, cond, _&&_}
 use mathlib.Core.List.{List}
 use Prim.Native.Nat.{ℕ}
 use Rattle.base.proofs.Bools.{said-no, said-yes}
 use Rattle.cluster.specs.declared.Cluster.{Cluster}
-use Rattle.cluster.specs.WellFormed.{wellFormed}
 use Rattle.steps.specs.declared.Outcome.{Outcome}
 use Rattle.steps.specs.declared.Refusal.the-variants.{NotAFrame, IllFormed}
 use Rattle.steps.specs.Answers.{refusingAll}
-use Rattle.saved.specs.Saved.{saveOf}
-use Rattle.saved.specs.Shape.{shaped}
+use Rattle.saved.specs.Layout.{Widths}
+use Rattle.saved.specs.Editions.{widths1, editions, isKnown, numbered, hasForm}
+use Rattle.saved.specs.Saved.{savedAs}
+use Rattle.saved.specs.Shape.{numberOf, shaped}
+use Rattle.saved.proofs.Lawful.{both-same}
 use Rattle.shapes.specs.declared.Shape.{Shape}
 use Rattle.shapes.specs.Walk.{freshShape, walked, isShaped}
+use Rattle.shapes.proofs.Next.{reads-all}
 use Rattle.shapes.proofs.Told.{told}
-use Rattle.loads.specs.Decoded.{decoded}
-use Rattle.loads.specs.Loads.{sameText, loaded, loadOf}
+use Rattle.shapes.proofs.Named.{named}
+use Rattle.loads.specs.Decoded.{decodedIn}
+use Rattle.loads.specs.Loads.{sameText, loaded, loadFor, loadOf}
+use Rattle.loads.proofs.Loads.{shaped-known}
 use borrow.Author.Needs.{needs}
 use Rattle.loads.proofs.load.Statement.{statement}
 use Rattle.loads.proofs.load.Tie as tie
 
--- what the walk tells is the shape
-tells : {b : Bool} {s t : Shape} (text : List ℕ) → b ≡ isShaped t → t ≡ walked s text → s ≡ freshShape → b ≡ shaped text
-tells text p q r = p ∙ ap isShaped (q ∙ ap (λ (x : Shape). walked x text) r) ∙ told text
+-- what the walk tells is the shape, and where that is right the edition
+module _ {s t : Shape} (text : List ℕ) (q : t ≡ walked s text) (r : s ≡ freshShape) where
+  whole : t ≡ walked freshShape text
+  whole = q ∙ ap (λ (x : Shape). walked x text) r
+
+  tells : {b : Bool} → b ≡ isShaped t → b ≡ shaped text
+  tells p = p ∙ ap isShaped whole ∙ told text
+
+  names : shaped text ≡ true → t .left .edition ≡ numberOf text
+  names h = ap (λ (x : Shape). x .left .edition) whole ∙ named editions reads-all text (told text ∙ h)
 
 module _ (c : Cluster) (text : List ℕ) where
   no-shape : shaped text ≡ false → refusingAll c NotAFrame ≡ loadOf c text
-  unfolding loadOf
+  unfolding loadFor
   no-shape e = rw e
 
-  by-text : {d : Cluster} {b : Bool} → shaped text ≡ true → d ≡ decoded text → b ≡ (wellFormed d && sameText (saveOf d) text)
-      → cond b (loaded d) (refusingAll c IllFormed) ≡ loadOf c text
-  unfolding loadOf
-  by-text {d} {b} e p f =
+  by-text : {n : ℕ} {d : Cluster} {b : Bool} → shaped text ≡ true → n ≡ numberOf text → d ≡ decodedIn widths1 text
+      → b ≡ (isKnown editions n && (hasForm (numbered editions n) d && sameText (savedAs (numbered editions n) d) text)) → cond b (loaded d) (refusingAll c IllFormed) ≡ loadOf c text
+  unfolding loadFor
+  by-text {n} {d} {b} e m p f =
       ap (λ (x : Bool). cond x (loaded d) (refusingAll c IllFormed)) f
-      ∙ ap (λ (x : Cluster). cond (wellFormed x && sameText (saveOf x) text) (loaded x) (refusingAll c IllFormed)) p
-      ∙ rw e (both (wellFormed (decoded text)) (sameText (saveOf (decoded text)) text) (loaded (decoded text)) (refusingAll c IllFormed))
+      ∙ ap (λ (k : ℕ). gives (isKnown editions k) k d) m
+      ∙ ap (λ (x : Bool). gives x (numberOf text) d) (shaped-known editions text e)
+      ∙ ap (gives true (numberOf text)) (p ∙ ap (λ (w : Widths). decodedIn w text) (sym (both-same (numberOf text))))
+      ∙ rw e (both (hasForm (numbered editions (numberOf text)) _) (sameText (savedAs (numbered editions (numberOf text)) _) text) (loaded _) (refusingAll c IllFormed))
     where
+      gives : Bool → ℕ → Cluster → Outcome
+      gives x k y = cond (x && (hasForm (numbered editions k) y && sameText (savedAs (numbered editions k) y) text)) (loaded y) (refusingAll c IllFormed)
+
       both : (x y : Bool) (o q : Outcome) → cond (x && y) o q ≡ cond x (cond y o q) q
       both true y o q = refl
       both false y o q = refl
@@ -56,7 +73,7 @@ refuse-all-requires c κs = search needs
 returns : tie.Need-returns
 returns c =
     let b = c .before .before in
-    c .refuse-all .ensures ∙ no-shape _ _ (said-no _ _ (tells _ (b .is-shaped .ensures) (b .before .walk .ensures) (b .before .before .begin .ensures)) (c .before .if1 .taken))
+    c .refuse-all .ensures ∙ no-shape _ _ (said-no _ _ (tells _ (b .before .walk .ensures) (b .before .before .begin .ensures) (b .is-shaped .ensures)) (c .before .if1 .taken))
 
 decode-requires : tie.Need-decode-requires
 decode-requires c κs = search needs
@@ -70,14 +87,18 @@ refuse-all-requires-2 c κs = search needs
 returns-2 : tie.Need-returns-2
 returns-2 c =
     let b = c .before .before .before .before in
-    let s = said-yes _ _ (tells _ (b .before .is-shaped .ensures) (b .before .before .walk .ensures) (b .before .before .before .begin .ensures)) (b .if1 .left) in
-    c .refuse-all2 .ensures ∙ by-text _ _ {b = false} s (c .before .before .before .decode .ensures) (sym (said-no _ _ (c .before .before .saves-to .ensures) (c .before .if2 .taken)))
+    let k = b .before .before .walk .ensures in
+    let g = b .before .before .before .begin .ensures in
+    let s = said-yes _ _ (tells _ k g (b .before .is-shaped .ensures)) (b .if1 .left) in
+    c .refuse-all2 .ensures ∙ by-text _ _ {b = false} s (names _ k g s) (c .before .before .before .decode .ensures) (sym (said-no _ _ (c .before .before .saves-to .ensures) (c .before .if2 .taken)))
 
 returns-3 : tie.Need-returns-3
 returns-3 c =
     let b = c .before .before .before in
-    let s = said-yes _ _ (tells _ (b .before .is-shaped .ensures) (b .before .before .walk .ensures) (b .before .before .before .begin .ensures)) (b .if1 .left) in
-    by-text _ _ {b = true} s (c .before .before .decode .ensures) (sym (said-yes _ _ (c .before .saves-to .ensures) (c .if2 .left)))
+    let k = b .before .before .walk .ensures in
+    let g = b .before .before .before .begin .ensures in
+    let s = said-yes _ _ (tells _ k g (b .before .is-shaped .ensures)) (b .if1 .left) in
+    by-text _ _ {b = true} s (names _ k g s) (c .before .before .decode .ensures) (sym (said-yes _ _ (c .before .saves-to .ensures) (c .if2 .left)))
 
 pub load-spec : {M : Type 1} → statement M
 load-spec =

@@ -15,14 +15,14 @@ use Rattle.loads.proofs.saves_to.Tie as tie
 full : longest ≤ length {A = ℕ} (replicate longest 0)
 full = omega (arith, length-replicate {A = ℕ} longest 0)
 
-wrote : (c : tie.After-wrote) → Wrote (c .before .before .before .before .before .before .args .d) (c .wrote .given .0 .0) (c .before .before .before .save .last .1 .0)
-wrote c = let s = c .before .before .before .save in wrote-text _ _ full _ _ (sym (c .wrote .given .1) ∙ s .ensures .0) (s .ensures .1)
+wrote : (c : tie.After-wrote) → Wrote (c .before .before .before .before .before .before .args .edition) (c .before .before .before .before .before .before .args .d) (c .wrote .given .0 .0) (c .before .before .before .save-as .last .1 .1 .0)
+wrote c = let s = c .before .before .before .save-as in wrote-text _ _ _ full _ _ (sym (c .wrote .given .1) ∙ s .ensures .0) (s .ensures .1)
 
-slice-aggregate-save : tie.Need-slice-aggregate-save
-slice-aggregate-save c = search needs
+slice-aggregate-save-as : tie.Need-slice-aggregate-save-as
+slice-aggregate-save-as c = search needs
 
-save-requires : tie.Need-save-requires
-save-requires c κs = search needs
+save-as-requires : tie.Need-save-as-requires
+save-as-requires c κs = search needs
 
 enum-known-wrote : tie.Need-enum-known-wrote
 enum-known-wrote c = search needs
@@ -43,20 +43,20 @@ enum-told-2 : tie.Need-enum-told-2
 enum-told-2 c = search needs
 
 returns : tie.Need-returns
-returns c = c .same-text .ensures ∙ wrote-same (wrote (c .before .before .before)) _
+returns c = c .same-text .ensures ∙ wrote-same _ _ (wrote (c .before .before .before)) _
 
 returns-2 : tie.Need-returns-2
-returns-2 c = let s = c .before .before .before .save in wrote-none _ (no-text _ _ full NoRoom refl (sym (c .enum-told .given .1) ∙ s .ensures .0)) _
+returns-2 c = let s = c .before .before .before .save-as in let a = c .before .before .before .before .before .before .args in wrote-none (a .edition) (a .d) (no-text (a .edition) (a .d) _ full NoRoom refl (sym (c .enum-told .given .1) ∙ s .ensures .0)) _
 
 returns-3 : tie.Need-returns-3
-returns-3 c = let s = c .before .before .before .save in wrote-none _ (no-text _ _ full (Refused _) refl (sym (c .enum-told2 .given .1) ∙ s .ensures .0)) _
+returns-3 c = let s = c .before .before .before .save-as in let a = c .before .before .before .before .before .before .args in wrote-none (a .edition) (a .d) (no-text (a .edition) (a .d) _ full (Refused _) refl (sym (c .enum-told2 .given .1) ∙ s .ensures .0)) _
 
 pub saves-to-spec : {M : Type 1} → statement M
 saves-to-spec =
     tie.close
     (tie.spec
-    slice-aggregate-save
-    save-requires
+    slice-aggregate-save-as
+    save-as-requires
     enum-known-wrote
     array-share-prefix-out
     slice-aggregate-same-text

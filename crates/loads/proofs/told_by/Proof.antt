@@ -13,25 +13,28 @@ use Rattle.mail.specs.declared.Mail.{Mail}
 use Rattle.mail.specs.Mails.{noted, received}
 use Rattle.cluster.specs.declared.Server.{Server}
 use Rattle.cluster.specs.Servers.{withLog, withMail}
-use Rattle.loads.specs.Decoded.{entryIn, reportIn, toldBy}
+use Rattle.saved.specs.declared.Sort.the-variants as S
+use Rattle.saved.specs.Layout.{numbersIn}
+use Rattle.saved.specs.Editions.{widths1}
+use Rattle.loads.specs.Decoded.{entrySaid, reportSaid, toldBy}
 use borrow.Author.Needs.{needs}
 use Rattle.loads.proofs.told_by.Statement.{statement}
 use Rattle.loads.proofs.told_by.Tie as tie
 
 module _ (s : Server) (bs : List ℕ) where
-  as-entry : (g : Log) (e : Entry) → byteAt bs 0 ≡ 2 → g ≡ appended (s .log) e → e ≡ entryIn bs → withLog s g ≡ toldBy s bs
+  as-entry : (g : Log) (e : Entry) → byteAt bs 0 ≡ 2 → g ≡ appended (s .log) e → e ≡ entrySaid (numbersIn widths1 S.Entry bs) → withLog s g ≡ toldBy widths1 s bs
   unfolding toldBy
   as-entry g e k p q = rw k (ap (withLog s) (p ∙ ap (appended (s .log)) q))
 
-  as-note : (m : Mail) (r : Report) → byteAt bs 0 ≡ 3 → m ≡ noted (s .mail) r → r ≡ reportIn bs → withMail s m ≡ toldBy s bs
+  as-note : (m : Mail) (r : Report) → byteAt bs 0 ≡ 3 → m ≡ noted (s .mail) r → r ≡ reportSaid (numbersIn widths1 S.Note bs) → withMail s m ≡ toldBy widths1 s bs
   unfolding toldBy
   as-note m r k p q = rw k (ap (withMail s) (p ∙ ap (noted (s .mail)) q))
 
-  as-report : (m : Mail) (r : Report) → byteAt bs 0 ≡ 4 → m ≡ received (s .mail) r → r ≡ reportIn bs → withMail s m ≡ toldBy s bs
+  as-report : (m : Mail) (r : Report) → byteAt bs 0 ≡ 4 → m ≡ received (s .mail) r → r ≡ reportSaid (numbersIn widths1 S.Note bs) → withMail s m ≡ toldBy widths1 s bs
   unfolding toldBy
   as-report m r k p q = rw k (ap (withMail s) (p ∙ ap (received (s .mail)) q))
 
-  as-none : byteAt bs 0 ≢ 2 → byteAt bs 0 ≢ 3 → byteAt bs 0 ≢ 4 → s ≡ toldBy s bs
+  as-none : byteAt bs 0 ≢ 2 → byteAt bs 0 ≢ 3 → byteAt bs 0 ≢ 4 → s ≡ toldBy widths1 s bs
   unfolding toldBy
   as-none x y z = simp (ne-eqb (byteAt bs 0) 2 x, ne-eqb (byteAt bs 0) 3 y, ne-eqb (byteAt bs 0) 4 z)
 

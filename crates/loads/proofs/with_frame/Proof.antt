@@ -7,21 +7,24 @@ use borrow.Author.Tests.{ne-eqb}
 use Rattle.words.specs.Words.{byteAt}
 use Rattle.cluster.specs.declared.Server.{Server}
 use Rattle.loads.specs.declared.Draft.{Draft}
-use Rattle.loads.specs.Decoded.{serverIn, counting, beginning, telling, withFrame}
+use Rattle.saved.specs.declared.Sort.the-variants as S
+use Rattle.saved.specs.Layout.{numbersIn}
+use Rattle.saved.specs.Editions.{widths1}
+use Rattle.loads.specs.Decoded.{serverSaid, counting, beginning, telling, withFrame}
 use borrow.Author.Needs.{needs}
 use Rattle.loads.proofs.with_frame.Statement.{statement}
 use Rattle.loads.proofs.with_frame.Tie as tie
 
 module _ (d : Draft) (bs : List ℕ) (r : Draft) where
-  as-first : byteAt bs 0 ≡ 0 → r ≡ counting d (byteAt bs 2) → r ≡ withFrame d bs
+  as-first : byteAt bs 0 ≡ 0 → r ≡ counting d (byteAt bs 2) → r ≡ withFrame widths1 d bs
   unfolding withFrame
   as-first k p = rw k p
 
-  as-server : (s : Server) → byteAt bs 0 ≡ 1 → r ≡ beginning d s → s ≡ serverIn bs → r ≡ withFrame d bs
+  as-server : (s : Server) → byteAt bs 0 ≡ 1 → r ≡ beginning d s → s ≡ serverSaid (numbersIn widths1 S.Server bs) → r ≡ withFrame widths1 d bs
   unfolding withFrame
   as-server s k p q = rw k (p ∙ ap (beginning d) q)
 
-  as-other : byteAt bs 0 ≢ 0 → byteAt bs 0 ≢ 1 → r ≡ telling d bs → r ≡ withFrame d bs
+  as-other : byteAt bs 0 ≢ 0 → byteAt bs 0 ≢ 1 → r ≡ telling widths1 d bs → r ≡ withFrame widths1 d bs
   unfolding withFrame
   as-other x y p = simp (ne-eqb (byteAt bs 0) 0 x, ne-eqb (byteAt bs 0) 1 y) p
 

@@ -7,13 +7,14 @@ use borrow.Author.Needs.{needs}
 use Rattle.base.proofs.Facts.{mapped-long}
 use Rattle.log.specs.Entries.{zeroEntry}
 use Rattle.log.specs.Logs.{logLimit}
+use Rattle.saved.specs.Editions.{widths1}
 use Rattle.saved.specs.Layout.{entryFrame}
 use Rattle.saved.proofs.Going.{going-length, Each, each-start, each-room, each-more, each-end}
 use Rattle.saved.proofs.put_entries.Statement.{statement}
 use Rattle.saved.proofs.put_entries.Tie as tie
 
 abbrev Inv-loop : tie.InvT-loop
-Inv-loop out₀ at g len w₀ i₀ out w i = Each entryFrame (g .len) (g .entries) out₀ at out w i
+Inv-loop out₀ at g len w₀ i₀ out w i = Each (entryFrame widths1) (g .len) (g .entries) out₀ at out w i
 
 abbrev μ-loop : tie.MeasureT-loop
 μ-loop out₀ at g len w₀ i₀ out w i = g .len - i

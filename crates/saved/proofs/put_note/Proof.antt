@@ -4,6 +4,7 @@ use mathlib.Core.List.{List, [], _∷_}
 use Prim.Native.Nat.{ℕ, _+_, _≤_}
 use native.Mathlib.Omega.{arith}
 use lib.ListN.{length}
+use Rattle.saved.specs.Editions.{widths1}
 use Rattle.saved.specs.Saved.{noteFrames, textOf}
 use Rattle.saved.specs.Written.{Written}
 use Rattle.saved.proofs.Going.{written-none}
@@ -12,7 +13,7 @@ use Rattle.saved.proofs.put_note.Statement.{statement}
 use Rattle.saved.proofs.put_note.Tie as tie
 
 -- the frame that was made is that of the note
-made : (c : tie.After-note-frame) → c .note-frame .result ∷ [] ≡ noteFrames (c .before .before .before .before .args .who) (c .before .before .before .before .args .n ∷ [])
+made : (c : tie.After-note-frame) → c .note-frame .result ∷ [] ≡ noteFrames widths1 (c .before .before .before .before .args .who) (c .before .before .before .before .args .n ∷ [])
 made c = rw (sym (c .before .before .is-unused .ensures) ∙ c .before .if1 .left) (ap (λ (f : List ℕ). f ∷ []) (c .note-frame .ensures))
 
 is-unused-requires : tie.Need-is-unused-requires

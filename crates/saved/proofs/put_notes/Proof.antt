@@ -13,6 +13,7 @@ use Rattle.mail.specs.declared.Note.{Note}
 use Rattle.mail.specs.Reports.{zeroNote}
 use Rattle.mail.specs.Mails.{noteSlots}
 use Rattle.mail.specs.Order.{isUnused}
+use Rattle.saved.specs.Editions.{widths1}
 use Rattle.saved.specs.Layout.{noteFrame}
 use Rattle.saved.specs.Saved.{noteFrames}
 use Rattle.saved.proofs.Going.{Next, Going, going-start, going-room, going-more, going-end, going-length}
@@ -20,16 +21,16 @@ use Rattle.saved.proofs.put_notes.Statement.{statement}
 use Rattle.saved.proofs.put_notes.Tie as tie
 
 abbrev Inv-loop : tie.InvT-loop
-Inv-loop out₀ at m w₀ i₀ out w i = (i ≤ noteSlots) × Going out₀ at out w (noteFrames 0 (m .notes)) (noteFrames i (drop i (m .notes)))
+Inv-loop out₀ at m w₀ i₀ out w i = (i ≤ noteSlots) × Going out₀ at out w (noteFrames widths1 0 (m .notes)) (noteFrames widths1 i (drop i (m .notes)))
 
 abbrev μ-loop : tie.MeasureT-loop
 μ-loop out₀ at m w₀ i₀ out w i = noteSlots - i
 
 -- the first of some notes, and then the others
-first-note : (i : ℕ) (n : Note) (ns : List Note) → noteFrames i (n ∷ ns) ≡ noteFrames i (n ∷ []) ++ noteFrames (suc i) ns
+first-note : (i : ℕ) (n : Note) (ns : List Note) → noteFrames widths1 i (n ∷ ns) ≡ noteFrames widths1 i (n ∷ []) ++ noteFrames widths1 (suc i) ns
 first-note i n ns = go (isUnused n)
   where
-    go : (b : Bool) → cond b (noteFrames (suc i) ns) (noteFrame i n ∷ noteFrames (suc i) ns) ≡ cond b [] (noteFrame i n ∷ []) ++ noteFrames (suc i) ns
+    go : (b : Bool) → cond b (noteFrames widths1 (suc i) ns) (noteFrame widths1 i n ∷ noteFrames widths1 (suc i) ns) ≡ cond b [] (noteFrame widths1 i n ∷ []) ++ noteFrames widths1 (suc i) ns
     go true = refl
     go false = refl
 
@@ -37,16 +38,16 @@ slots : (c : tie.Start Inv-loop μ-loop) → length (c .args .t3 .notes) ≡ not
 slots c = search (needs, mapped-long)
 
 next : (c : tie.In-loop Inv-loop μ-loop)
-    → Next (noteFrames (c .before .loop .i) (drop (c .before .loop .i) (c .before .before .before .args .t3 .notes)))
-    (noteFrames (c .before .loop .i) (getD (c .before .before .before .args .t3 .notes) (c .before .loop .i) zeroNote ∷ []))
-    (noteFrames (c .before .loop .i + 1) (drop (c .before .loop .i + 1) (c .before .before .before .args .t3 .notes)))
+    → Next (noteFrames widths1 (c .before .loop .i) (drop (c .before .loop .i) (c .before .before .before .args .t3 .notes)))
+    (noteFrames widths1 (c .before .loop .i) (getD (c .before .before .before .args .t3 .notes) (c .before .loop .i) zeroNote ∷ []))
+    (noteFrames widths1 (c .before .loop .i + 1) (drop (c .before .loop .i + 1) (c .before .before .before .args .t3 .notes)))
 next c =
     let s = c .before .before .before in
     let ns = s .args .t3 .notes in
     let i = c .before .loop .i in
     record {
-      parts = ap (noteFrames i) (drop-cons ns i zeroNote (omega (arith, slots s))) ∙ first-note i (getD ns i zeroNote) (drop (suc i) ns)
-          ∙ ap (λ (k : ℕ). noteFrames i (getD ns i zeroNote ∷ []) ++ noteFrames k (drop k ns)) (sym (add-one i));
+      parts = ap (noteFrames widths1 i) (drop-cons ns i zeroNote (omega (arith, slots s))) ∙ first-note i (getD ns i zeroNote) (drop (suc i) ns)
+          ∙ ap (λ (k : ℕ). noteFrames widths1 i (getD ns i zeroNote ∷ []) ++ noteFrames widths1 k (drop k ns)) (sym (add-one i));
     }
 
 loop-holds : tie.Need-loop-holds Inv-loop μ-loop
@@ -82,7 +83,7 @@ same-length c = going-length (c .before .loop .inv .1)
 returns : tie.Need-returns Inv-loop μ-loop
 returns c =
     let s = c .before .before .before in
-    going-end (c .before .loop .inv .1) (ap (noteFrames (c .before .loop .i)) (drop-of-length-le (s .args .t3 .notes) {i = c .before .loop .i} (omega (arith, slots s))))
+    going-end (c .before .loop .inv .1) (ap (noteFrames widths1 (c .before .loop .i)) (drop-of-length-le (s .args .t3 .notes) {i = c .before .loop .i} (omega (arith, slots s))))
 
 pub put-notes-spec : {M : Type 1} → statement M
 put-notes-spec =

@@ -7,13 +7,14 @@ use borrow.Author.Needs.{needs}
 use Rattle.base.proofs.Facts.{mapped-long}
 use Rattle.mail.specs.Reports.{zeroReport}
 use Rattle.mail.specs.Queues.{queueLimit}
+use Rattle.saved.specs.Editions.{widths1}
 use Rattle.saved.specs.Layout.{reportFrame}
 use Rattle.saved.proofs.Going.{going-length, Each, each-start, each-room, each-more, each-end}
 use Rattle.saved.proofs.put_reports.Statement.{statement}
 use Rattle.saved.proofs.put_reports.Tie as tie
 
 abbrev Inv-loop : tie.InvT-loop
-Inv-loop out₀ at q len w₀ i₀ out w i = Each reportFrame (q .len) (q .reports) out₀ at out w i
+Inv-loop out₀ at q len w₀ i₀ out w i = Each (reportFrame widths1) (q .len) (q .reports) out₀ at out w i
 
 abbrev μ-loop : tie.MeasureT-loop
 μ-loop out₀ at q len w₀ i₀ out w i = q .len - i

@@ -6,9 +6,10 @@ use native.Mathlib.Omega.{arith}
 use lib.ListN.{length}
 use borrow.Author.Needs.{needs}
 use Rattle.base.proofs.Facts.{mapped-long}
-use Rattle.log.specs.Logs.{live}
+use Rattle.log.specs.Logs.{kept}
 use Rattle.mail.specs.Mails.{noteSlots}
 use Rattle.cluster.specs.declared.Server.{Server}
+use Rattle.saved.specs.Editions.{widths1}
 use Rattle.saved.specs.Layout.{entryFrame, reportFrame}
 use Rattle.saved.specs.Saved.{noteFrames, queuedReports, serverFrames, textOf}
 use Rattle.saved.specs.Written.{longestServer}
@@ -19,13 +20,13 @@ use Rattle.saved.proofs.put_server.Tie as tie
 
 -- what follows the server's frame, its entries, its notes
 abbrev Reports : Server → List (List ℕ)
-Reports s = map reportFrame (queuedReports (s .mail .queue))
+Reports s = map (reportFrame widths1) (queuedReports (s .mail .queue))
 
 abbrev Notes : Server → List (List ℕ)
-Notes s = noteFrames 0 (s .mail .notes) ++ Reports s
+Notes s = noteFrames widths1 0 (s .mail .notes) ++ Reports s
 
 abbrev Entries : Server → List (List ℕ)
-Entries s = map entryFrame (live (s .log)) ++ Notes s
+Entries s = map (entryFrame widths1) (kept (s .log)) ++ Notes s
 
 -- where the function began
 abbrev line-start : tie.After-put-line → tie.Start
@@ -40,27 +41,27 @@ notes-start c = entries-start (c .before .before .before .before)
 abbrev reports-start : tie.After-put-reports → tie.Start
 reports-start c = notes-start (c .before .before .before .before)
 
-short : (s : tie.Start) → length (textOf (serverFrames (s .args .s))) ≤ longestServer
+short : (s : tie.Start) → length (textOf (serverFrames widths1 (s .args .s))) ≤ longestServer
 short s = let slots : length (s .args .s .mail .notes) ≡ noteSlots = search (needs, mapped-long) in server-length (s .pre .0) slots
 
-room : (s : tie.Start) → s .args .at + length (textOf (serverFrames (s .args .s))) ≤ length (s .args .out .now)
+room : (s : tie.Start) → s .args .at + length (textOf (serverFrames widths1 (s .args .s))) ≤ length (s .args .out .now)
 room s = omega (arith, short s, s .pre .1)
 
 -- what is left of the server's frames
 abbrev Left : tie.Start → List ℕ → ℕ → (Server → List (List ℕ)) → Type 0
-Left s out at rest = Going (s .args .out .now) (s .args .at) out at (serverFrames (s .args .s)) (rest (s .args .s))
+Left s out at rest = Going (s .args .out .now) (s .args .at) out at (serverFrames widths1 (s .args .s)) (rest (s .args .s))
 
-begun : (s : tie.Start) → Left s (s .args .out .now) (s .args .at) serverFrames
+begun : (s : tie.Start) → Left s (s .args .out .now) (s .args .at) (serverFrames widths1)
 begun s = going-start (omega (arith, room s))
 
-first : (c : tie.After-server-frame) → Next (serverFrames (c .before .before .args .s)) (c .server-frame .result ∷ []) (Entries (c .before .before .args .s))
+first : (c : tie.After-server-frame) → Next (serverFrames widths1 (c .before .before .args .s)) (c .server-frame .result ∷ []) (Entries (c .before .before .args .s))
 first c = record { parts = ap (λ (f : List ℕ). f ∷ Entries (c .before .before .args .s)) (sym (c .server-frame .ensures)) }
 
-entries-next : (s : Server) → Next (Entries s) (map entryFrame (live (s .log))) (Notes s)
-entries-next s = next-first (map entryFrame (live (s .log))) (Notes s)
+entries-next : (s : Server) → Next (Entries s) (map (entryFrame widths1) (kept (s .log))) (Notes s)
+entries-next s = next-first (map (entryFrame widths1) (kept (s .log))) (Notes s)
 
-notes-next : (s : Server) → Next (Notes s) (noteFrames 0 (s .mail .notes)) (Reports s)
-notes-next s = next-first (noteFrames 0 (s .mail .notes)) (Reports s)
+notes-next : (s : Server) → Next (Notes s) (noteFrames widths1 0 (s .mail .notes)) (Reports s)
+notes-next s = next-first (noteFrames widths1 0 (s .mail .notes)) (Reports s)
 
 after-line : (c : tie.After-put-line) → Left (line-start c) (c .put-line .last .0) (c .put-line .result) Entries
 after-line c = going-more (begun (line-start c)) (first (c .before .before .before .before .before .before)) (c .put-line .ensures)

@@ -6,6 +6,7 @@ use lib.ListN.{length, take, drop}
 use borrow.Author.Needs.{needs}
 use Rattle.base.proofs.Facts.{mapped-long}
 use Rattle.cluster.specs.Servers.{mostServers, pastServer, serverAt}
+use Rattle.saved.specs.Editions.{widths1}
 use Rattle.saved.specs.Saved.{serverFrames, allFrames}
 use Rattle.saved.specs.Written.{longestServer}
 use Rattle.saved.proofs.Frames.{at-most-seven, small}
@@ -15,7 +16,7 @@ use Rattle.saved.proofs.put_servers.Tie as tie
 
 abbrev Inv-loop : tie.InvT-loop
 Inv-loop out₀ at c count w₀ i₀ out w i =
-    (i ≤ c .count) × (w ≤ at + i * longestServer) × Going out₀ at out w (allFrames (take (c .count) (c .servers))) (allFrames (drop i (take (c .count) (c .servers))))
+    (i ≤ c .count) × (w ≤ at + i * longestServer) × Going out₀ at out w (allFrames widths1 (take (c .count) (c .servers))) (allFrames widths1 (drop i (take (c .count) (c .servers))))
 
 abbrev μ-loop : tie.MeasureT-loop
 μ-loop out₀ at c count w₀ i₀ out w i = c .count - i
@@ -27,12 +28,12 @@ slots : (c : tie.Start Inv-loop μ-loop) → length (c .args .t3 .servers) ≡ m
 slots c = search (needs, mapped-long)
 
 next : (c : tie.In-loop Inv-loop μ-loop)
-    → Next (allFrames (drop (c .before .loop .i) (take (c .before .before .before .args .t3 .count) (c .before .before .before .args .t3 .servers)))) (serverFrames (serverAt (c .before .before .before .args .t3) (c .before .loop .i)))
-    (allFrames (drop (c .before .loop .i + 1) (take (c .before .before .before .args .t3 .count) (c .before .before .before .args .t3 .servers))))
+    → Next (allFrames widths1 (drop (c .before .loop .i) (take (c .before .before .before .args .t3 .count) (c .before .before .before .args .t3 .servers)))) (serverFrames widths1 (serverAt (c .before .before .before .args .t3) (c .before .loop .i)))
+    (allFrames widths1 (drop (c .before .loop .i + 1) (take (c .before .before .before .args .t3 .count) (c .before .before .before .args .t3 .servers))))
 next c =
     let s = c .before .before .before in
     let d = s .args .t3 in
-    record { parts = ap allFrames (next-of (d .count) (d .servers) (c .before .loop .i) pastServer (omega arith) (omega (arith, seven s, slots s))) }
+    record { parts = ap (allFrames widths1) (next-of (d .count) (d .servers) (c .before .loop .i) pastServer (omega arith) (omega (arith, seven s, slots s))) }
 
 loop-holds : tie.Need-loop-holds Inv-loop μ-loop
 loop-holds c = (search needs, search needs, going-start (omega arith))
@@ -67,7 +68,7 @@ same-length c = going-length (c .before .loop .inv .2)
 returns : tie.Need-returns Inv-loop μ-loop
 returns c =
     let d = c .before .before .before .args .t3 in
-    going-end (c .before .loop .inv .2) (ap allFrames (none-left (d .count) (d .servers) (c .before .loop .i) (omega arith)))
+    going-end (c .before .loop .inv .2) (ap (allFrames widths1) (none-left (d .count) (d .servers) (c .before .loop .i) (omega arith)))
 
 pub put-servers-spec : {M : Type 1} → statement M
 put-servers-spec =

@@ -8,6 +8,7 @@ use borrow.Author.Needs.{needs}
 use Rattle.words.specs.Words.{highOf, lowOf}
 use Rattle.cluster.specs.declared.Server.{Server}
 use Rattle.saved.specs.declared.Sort.the-variants as S
+use Rattle.saved.specs.Editions.{widths1}
 use Rattle.saved.specs.Layout.{sortNumber, usedNotes, serverFrame}
 use Rattle.saved.proofs.server_frame.Statement.{statement}
 use Rattle.saved.proofs.server_frame.Tie as tie
@@ -20,7 +21,7 @@ frame-is : (s : Server) {k eh el n th tl ch cl wh wl ph pl lh ll : ℕ} → k �
     → n ≡ usedNotes (s .mail) → th ≡ highOf (s .head .term) → tl ≡ lowOf (s .head .term) → ch ≡ highOf (s .head .commit) → cl ≡ lowOf (s .head .commit)
     → wh ≡ highOf (s .head .wall) → wl ≡ lowOf (s .head .wall) → ph ≡ highOf (s .head .time .p) → pl ≡ lowOf (s .head .time .p)
     → lh ≡ highOf (s .head .time .l) → ll ≡ lowOf (s .head .time .l)
-    → _≡_ {A = List ℕ} (k ∷ eh ∷ el ∷ n ∷ s .mail .queue .len ∷ s .mail .source ∷ boolByte (s .head .primary) ∷ th ∷ tl ∷ ch ∷ cl ∷ wh ∷ wl ∷ ph ∷ pl ∷ lh ∷ ll ∷ []) (serverFrame s)
+    → _≡_ {A = List ℕ} (k ∷ eh ∷ el ∷ n ∷ s .mail .queue .len ∷ s .mail .source ∷ boolByte (s .head .primary) ∷ th ∷ tl ∷ ch ∷ cl ∷ wh ∷ wl ∷ ph ∷ pl ∷ lh ∷ ll ∷ []) (serverFrame widths1 s)
 frame-is s e1 e2 e3 e4 e5 e6 e7 e8 e9 e10 e11 e12 e13 e14 = cc (role-is (s .head .primary))
 
 cast-len : tie.Need-cast-len

@@ -60,11 +60,11 @@ returns-3 c = let a = c .before .before .before in c .broken-at3 .ensures ∙ ju
 array-share-prefix-h : tie.Need-array-share-prefix-h
 array-share-prefix-h c = let w = c .before .before in omega (arith, slots (start w), w .if2 .left)
 
-slice-aggregate-is-frame : tie.Need-slice-aggregate-is-frame
-slice-aggregate-is-frame c = prefix-long (c .before .before .before)
+slice-aggregate-is-next : tie.Need-slice-aggregate-is-next
+slice-aggregate-is-next c = prefix-long (c .before .before .before)
 
-is-frame-requires : tie.Need-is-frame-requires
-is-frame-requires c κs = search needs
+is-next-requires : tie.Need-is-next-requires
+is-next-requires c κs = search needs
 
 broken-at-requires-4 : tie.Need-broken-at-requires-4
 broken-at-requires-4 c κs = search needs
@@ -74,7 +74,7 @@ returns-4 c =
     let d = c .before in
     let w = d .before .before .before .before .before in
     let a = w .before .before in
-    c .broken-at4 .ensures ∙ judged-other (a .before .before .before .before .args .s) (sort a) (is-due a) (w .before .if1 .left) (w .if2 .left) (said-no _ _ (d .before .is-frame .ensures) (d .if3 .taken))
+    c .broken-at4 .ensures ∙ judged-other (a .before .before .before .before .args .s) (sort a) (is-due a) (w .before .if1 .left) (w .if2 .left) (said-no _ _ (d .before .is-next .ensures) (d .if3 .taken))
 
 array-share-prefix-h-2 : tie.Need-array-share-prefix-h-2
 array-share-prefix-h-2 c = let w = c .before .before .before .before .before in omega (arith, slots (start w), w .if2 .left)
@@ -93,7 +93,7 @@ returns-5 c =
     let d = c .before .before .before in
     let w = d .before .before .before .before .before in
     let a = w .before .before in
-    judged-frame (a .before .before .before .before .args .s) (sort a) (is-due a) (w .before .if1 .left) (w .if2 .left) _ _ (said-yes _ _ (d .before .is-frame .ensures) (d .if3 .left)) (c .before .bytes-in .ensures) (c .next-line .ensures)
+    judged-frame (a .before .before .before .before .args .s) (sort a) (is-due a) (w .before .if1 .left) (w .if2 .left) _ _ (said-yes _ _ (d .before .is-next .ensures) (d .if3 .left)) (c .before .bytes-in .ensures) (c .next-line .ensures)
 
 pub line-ended-spec : {M : Type 1} → statement M
 line-ended-spec =
@@ -109,8 +109,8 @@ line-ended-spec =
     broken-at-requires-3
     returns-3
     array-share-prefix-h
-    slice-aggregate-is-frame
-    is-frame-requires
+    slice-aggregate-is-next
+    is-next-requires
     broken-at-requires-4
     returns-4
     array-share-prefix-h-2

@@ -6,6 +6,7 @@ use native.Mathlib.Omega.{arith}
 use borrow.Author.Needs.{needs}
 use lib.ListN.{length, drop}
 use lib.Seq.{drop-length}
+use Rattle.saved.specs.Editions.{editions}
 use Rattle.shapes.specs.declared.Shape.{Shape}
 use Rattle.shapes.specs.Walk.{walked}
 use Rattle.shapes.proofs.Told.{after-feed, after-character, broken-stays, walked-more}
@@ -26,7 +27,7 @@ loop-holds : tie.Need-loop-holds Inv-loop μ-loop
 loop-holds c = (search needs, refl)
 
 returns : tie.Need-returns Inv-loop μ-loop
-returns c = let l = c .before .before .loop in sym (broken-stays (l .q) (drop (l .i) (c .before .before .before .before .args .piece .now)) (c .if1 .taken)) ∙ l .inv .1
+returns c = let l = c .before .before .loop in sym (broken-stays editions (l .q) (drop (l .i) (c .before .before .before .before .args .piece .now)) (c .if1 .taken)) ∙ l .inv .1
 
 shared-slice-read-b : tie.Need-shared-slice-read-b Inv-loop μ-loop
 shared-slice-read-b c = search needs
@@ -44,8 +45,8 @@ loop-again : tie.Need-loop-again Inv-loop μ-loop
 loop-again c =
     let l = c .before .before .before .before .before .loop in (
       search needs,
-      walked-more _ (l .q) _ (c .before .before .before .before .before .before .before .args .piece .now) (l .i) (omega arith) (l .inv .1)
-          (c .line-ended .ensures ∙ sym (after-feed (l .q) _ (c .before .before .before .if1 .left) (c .before .if2 .taken))),
+      walked-more editions _ (l .q) _ (c .before .before .before .before .before .before .before .args .piece .now) (l .i) (omega arith) (l .inv .1)
+          (c .line-ended .ensures ∙ sym (after-feed editions (l .q) _ (c .before .before .before .if1 .left) (c .before .if2 .taken))),
     )
 
 with-character-requires : tie.Need-with-character-requires Inv-loop μ-loop
@@ -58,8 +59,8 @@ loop-again-2 : tie.Need-loop-again-2 Inv-loop μ-loop
 loop-again-2 c =
     let l = c .before .before .before .before .before .loop in (
       search needs,
-      walked-more _ (l .q) _ (c .before .before .before .before .before .before .before .args .piece .now) (l .i) (omega arith) (l .inv .1)
-          (c .with-character .ensures ∙ sym (after-character (l .q) _ (c .before .before .before .if1 .left) (c .before .if2 .left))),
+      walked-more editions _ (l .q) _ (c .before .before .before .before .before .before .before .args .piece .now) (l .i) (omega arith) (l .inv .1)
+          (c .with-character .ensures ∙ sym (after-character editions (l .q) _ (c .before .before .before .if1 .left) (c .before .if2 .left))),
     )
 
 returns-2 : tie.Need-returns-2 Inv-loop μ-loop

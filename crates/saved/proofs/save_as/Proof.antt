@@ -1,0 +1,138 @@
+-- `saved::save_as` meets its contract. Assumes nothing.
+use mathlib.Core.Path.{_≡_, sym, ap, subst, _∙_}
+use mathlib.Core.Bool.{true, false}
+use mathlib.Core.List.{List, [], _∷_}
+use Prim.Native.Nat.{ℕ, _<_, _≤_}
+use native.Mathlib.Omega.{arith}
+use borrow.Author.Tests.{lt-ltb, le-ltb}
+use lib.ListN.{length, take}
+use Rattle.base.proofs.Bools.{said-no, said-yes, and-left}
+use Rattle.cluster.specs.declared.Cluster.{Cluster}
+use Rattle.cluster.specs.WellFormed.{wellFormed}
+use Rattle.steps.specs.declared.Refusal.the-variants.{IllFormed, OutOfRange}
+use Rattle.lines.specs.Texts.{placed}
+use Rattle.saved.specs.declared.Saved.{Saved}
+use Rattle.saved.specs.declared.Saved.the-variants.{Text, NoRoom, Refused}
+use Rattle.saved.specs.Layout.{Widths, firstFrame}
+use Rattle.saved.specs.Editions.{widths1, editions, isKnown, numbered, hasForm}
+use Rattle.saved.specs.Saved.{allFrames, framesOf, textOf, savedAs}
+use Rattle.saved.specs.Written.{Written, longest, savedAsOf, savedAsOut}
+use Rattle.saved.proofs.Texts.{text-length}
+use Rattle.saved.proofs.Lawful.{both-same, numbered-is}
+use Rattle.saved.proofs.Frames.{at-most-seven}
+use Rattle.saved.proofs.Going.{written-length, written-more}
+use borrow.Author.Needs.{needs}
+use Rattle.saved.proofs.save_as.Statement.{statement}
+use Rattle.saved.proofs.save_as.Tie as tie
+
+form-formed : (n : ℕ) (c : Cluster) → hasForm (numbered editions n) c ≡ true → wellFormed c ≡ true
+unfolding hasForm
+form-formed n c h = and-left _ _ h
+
+-- the result and the buffer, in each case
+module _ (n : ℕ) (c : Cluster) (out : List ℕ) where
+  abbrev Gives : Saved → List ℕ → Type 0
+  Gives r out′ = (r ≡ savedAsOf n c (length out)) × (out′ ≡ savedAsOut n c out)
+
+  not-known : isKnown editions n ≡ false → Gives (Refused OutOfRange) out
+  unfolding savedAsOf savedAsOut
+  not-known k = (rw k, rw k)
+
+  module _ (k : isKnown editions n ≡ true) where
+    no-form : hasForm (numbered editions n) c ≡ false → Gives (Refused IllFormed) out
+    unfolding savedAsOf savedAsOut
+    no-form e = (rw (k, e), rw (k, e))
+
+    module _ (e : hasForm (numbered editions n) c ≡ true) where
+      no-room : length out < longest → Gives NoRoom out
+      unfolding savedAsOf savedAsOut
+      no-room h = (rw (k, e, lt-ltb (length out) longest h), rw (k, e, lt-ltb (length out) longest h))
+
+      all-written : {f mid out′ : List ℕ} {w r : ℕ} → longest ≤ length out → f ≡ firstFrame widths1 n (c .count) → Written out 0 mid w (f ∷ [])
+          → Written mid w out′ r (allFrames widths1 (take (c .count) (c .servers))) → Gives (Text r) out′
+      unfolding savedAsOf savedAsOut
+      all-written {f} {out′ = out′} {r = r} h first v rest =
+          let all = allFrames widths1 (take (c .count) (c .servers)) in
+          let w : Written out 0 out′ r (firstFrame widths1 n (c .count) ∷ all) = subst (λ (x : List ℕ). Written out 0 out′ r (x ∷ all)) first (written-more v rest) in
+          let same : firstFrame widths1 n (c .count) ∷ all ≡ framesOf (numbered editions n) c =
+          ap (λ (m : ℕ). firstFrame widths1 m (c .count) ∷ all) (sym (numbered-is editions n k))
+          ∙ ap (λ (x : Widths). firstFrame x (numbered editions n .number) (c .count) ∷ allFrames x (take (c .count) (c .servers))) (sym (both-same n)) in
+          let long : r ≡ length (savedAs (numbered editions n) c) = omega (arith, w .next, ap (λ (x : List (List ℕ)). length (textOf x)) same) in
+          (rw (k, e, le-ltb (length out) longest h) (ap Text long), rw (k, e, le-ltb (length out) longest h) (w .buffer ∙ ap (λ (x : List (List ℕ)). placed out 0 (textOf x)) same))
+
+-- what is known of the edition and the record, after each test
+abbrev start : tie.Else2 → tie.Start
+start c = c .before .before .before .before .before
+
+known : (c : tie.Else1) → isKnown editions (c .before .before .before .args .edition) ≡ true
+known c = said-yes _ _ (c .before .is-known .ensures) (c .if1 .left)
+
+form : (c : tie.Else2) → hasForm (numbered editions (start c .args .edition)) (start c .args .c) ≡ true
+form c = said-yes _ _ (c .before .has-form .ensures) (c .if2 .left)
+
+formed : (c : tie.Else2) → wellFormed (start c .args .c) ≡ true
+formed c = form-formed (start c .args .edition) (start c .args .c) (form c)
+
+is-known-requires : tie.Need-is-known-requires
+is-known-requires c κs = search needs
+
+returns : tie.Need-returns
+returns c = let s = c .before .before .before in not-known (s .args .edition) (s .args .c) (s .args .out .now) (said-no _ _ (c .before .is-known .ensures) (c .if1 .taken))
+
+has-form-requires : tie.Need-has-form-requires
+has-form-requires c κs = search needs
+
+returns-2 : tie.Need-returns-2
+returns-2 c =
+    let k = c .before .before in
+    let s = k .before .before .before in
+    no-form (s .args .edition) (s .args .c) (s .args .out .now) (known k) (said-no _ _ (c .before .has-form .ensures) (c .if2 .taken))
+
+returns-3 : tie.Need-returns-3
+returns-3 c =
+    let f = c .before in
+    let s = start f in
+    no-room (s .args .edition) (s .args .c) (s .args .out .now) (known (f .before .before)) (form f) (c .if3 .taken)
+
+first-frame-requires : tie.Need-first-frame-requires
+first-frame-requires c κs = omega (arith, at-most-seven (start (c .before) .args .c) (formed (c .before)))
+
+slice-aggregate-put-line : tie.Need-slice-aggregate-put-line
+slice-aggregate-put-line c = search needs
+
+put-line-requires : tie.Need-put-line-requires
+put-line-requires c κs = let f = c .before .before .first-frame in omega (arith, text-length (f .result) [], ap length (f .ensures), c .before .before .before .if3 .left)
+
+put-servers-requires : tie.Need-put-servers-requires
+put-servers-requires c κs =
+    let p = c .before .before .before .put-line .ensures in
+    let b = c .before .before .before .before .before .before in
+    let f = b .first-frame in
+    (formed (b .before .before), omega (arith, p .next, written-length p, text-length (f .result) [], ap length (f .ensures), b .before .if3 .left))
+
+same-length : tie.Need-same-length
+same-length c = search needs
+
+returns-4 : tie.Need-returns-4
+returns-4 c =
+    let p = c .before .before .before .before .before .before in
+    let b = p .before .before .before in
+    let f = b .before .before in
+    let s = start f in
+    all-written (s .args .edition) (s .args .c) (s .args .out .now) (known (f .before .before)) (form f) (b .before .if3 .left) (b .first-frame .ensures) (p .put-line .ensures) (c .before .before .put-servers .ensures)
+
+pub save-as-spec : {M : Type 1} → statement M
+save-as-spec =
+    tie.close
+    (tie.spec
+    is-known-requires
+    returns
+    has-form-requires
+    returns-2
+    returns-3
+    first-frame-requires
+    slice-aggregate-put-line
+    put-line-requires
+    put-servers-requires
+    same-length
+    returns-4)
