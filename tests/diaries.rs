@@ -38,7 +38,8 @@ pub fn write_diaries(seed: u64, lines: usize, most: usize, folder: &str) -> io::
 
 impl Run {
     /// About so many lines; in some runs others come before the start, or a whole session. In most
-    /// the first or the last server alone covers what is covered last: nothing spreads after that.
+    /// the first or the last server alone covers what is covered last: nothing spreads after that. In
+    /// some no server covers anything any more in the end.
     pub(super) fn diaries(&mut self, lines: usize) {
         match self.prng.below(6) {
             0 => self.before_first_start(),
@@ -64,6 +65,9 @@ impl Run {
         while self.written < lines {
             let phone = self.prng.below(PHONES);
             self.visit(&mut phones[phone]);
+        }
+        if self.prng.one_in(6) {
+            (0..self.count() as u8).for_each(|a| self.say(Step::Restarts { a }));
         }
         self.last_line();
     }

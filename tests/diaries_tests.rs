@@ -6,7 +6,7 @@ use super::*;
 use crate::histories::{Verdict, check, check_text};
 use crate::honest::{Honest, LATEST};
 use crate::lines::read_line;
-use crate::model::{Cluster, ENTRIES, step};
+use crate::model::{COMMITTED_ENTRIES, Cluster, step};
 use crate::records::{Covered, READ, RECORDS, Record, WRITE, value_at};
 
 /// How many runs there are.
@@ -76,7 +76,7 @@ fn has_read(honest: &Honest, is_asked: fn(&Honest, &Record) -> bool) -> bool {
 /// What is to be seen in histories: without it, a wrong check would accept the same.
 const SIGHTS: [(&str, fn(&Run, &Honest) -> bool); 13] = [
     ("256 records", |_, honest| honest.records.len() == RECORDS),
-    ("a log of 32", |_, honest| honest.log.len() == ENTRIES),
+    ("a log of 128", |_, honest| honest.log.len() == COMMITTED_ENTRIES),
     ("more than is covered in the end", |run, honest| {
         run.cluster.counted().iter().all(|server| server.commit_point < honest.log.len())
     }),
@@ -196,7 +196,7 @@ const ENDS: [(&str, End, usize); 35] = [
 #[test]
 fn lies_of_each_sort_come_to_what_they_must() {
     let mut ends = ENDS.map(|_| Vec::new());
-    for (mut run, honest) in (1..32).filter(|seed| seed % 16 > 0).map(recorded) {
+    for (mut run, honest) in (1..=31).filter(|seed| seed % 16 > 0).map(recorded) {
         for (sort, texts) in lies(&mut run.prng, &honest) {
             let place = ENDS.iter().position(|end| end.0 == sort).expect(sort);
             let checked = texts.iter().map(|(n, text)| end_of(*n, check_text(&honest.log, text)));

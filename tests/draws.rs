@@ -1,8 +1,10 @@
 //! Drawing the numbers of a step: mostly usual ones, now and then odd ones.
 
 use super::Run;
-use crate::model::{KINDS, Role, SERVERS, Server, Step, Time};
+use crate::model::{HIGHEST_POSITION, KINDS, Role, SERVERS, Server, Step, Time};
 
+/// The highest position, as wide as in a step.
+pub const HIGHEST: u16 = HIGHEST_POSITION as u16;
 /// How often each kind is drawn among ordinary steps.
 const WEIGHTS: [usize; KINDS] = [1, 3, 2, 12, 14, 6, 9, 8, 5, 3, 8, 10, 12, 2, 5, 10, 14];
 
@@ -128,7 +130,7 @@ impl Run {
     fn acknowledged(&mut self, a: u8) -> Step {
         let length = self.at(a).log.length;
         let usual = 1 + self.prng.below(length.max(1)) as u16;
-        let odd = [0, length as u16 + 1, 32, 33, 256 + usual, 65_535];
+        let odd = [0, length as u16 + 1, HIGHEST, HIGHEST + 1, 256 + usual, 65_535];
         let position = if self.prng.one_in(8) { self.prng.pick(&odd) } else { usual };
         let term = self.at(a).log.entry(position.into()).map_or(1, |entry| entry.term);
         let term = self.mostly(term, &[0, 0, term.wrapping_add(1), term ^ 256, 65_535]);
@@ -150,7 +152,7 @@ impl Run {
         let older = log.entries[..log.length].iter().filter(|entry| entry.term < term).count();
         let before = if older == log.length || self.prng.one_in(8) { 0 } else { older };
         let usual = (before + 1 + self.prng.below((log.length - before).max(1))) as u16;
-        let odd = [0, log.length as u16 + 1, 32, 33, 256 + usual, 65_535];
+        let odd = [0, log.length as u16 + 1, HIGHEST, HIGHEST + 1, 256 + usual, 65_535];
         let position = self.mostly(usual, &odd);
         let of_entry = log.entry(position.into()).map_or(term, |entry| entry.term);
         let term = if self.prng.one_in(4) { of_entry } else { term };

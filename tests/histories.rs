@@ -2,7 +2,7 @@
 //! rules one after the other, each as its sentence says it. Tests are in `histories_tests.rs`.
 
 use crate::lines::read_bytes;
-use crate::model::{ENTRIES, Entry, KEY_MAX, Time, are_in_order};
+use crate::model::{COMMITTED_ENTRIES, Entry, KEY_MAX, Time, are_in_order};
 use crate::records::{READ, RECORD, RECORDS, Record, WRITE, is_written, value_at};
 use std::fmt;
 
@@ -62,7 +62,7 @@ fn read_record(line: &[u8]) -> Option<Record> {
 
 /// Records against a committed log.
 pub fn check(log: &[Entry], records: &[Record]) -> Verdict {
-    if log.len() > ENTRIES || !are_in_order(log) {
+    if log.len() > COMMITTED_ENTRIES || !are_in_order(log) {
         return Verdict::BadLog;
     }
     if records.len() > RECORDS || !records.iter().all(is_in_range) {

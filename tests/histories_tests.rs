@@ -111,7 +111,7 @@ fn a_write_has_no_position_0_and_none_past_the_log() {
     names_last(&[write(1, 0, 0, 0, Time::ZERO)]);
     names_last(&[write(1, 6, 0, 0, Time::ZERO)]);
     names_last(&[write(1, 6, 5, 43, time(9, 2))]);
-    names_last(&[write(1, 33, 5, 43, time(9, 2))]);
+    names_last(&[write(1, 129, 5, 43, time(9, 2))]);
     assert_eq!(check(&[], &[write(1, 1, 5, 41, time(1, 0))]), Verdict::Breaks(0));
     assert_eq!(check(&[], &[write(1, 0, 0, 0, Time::ZERO)]), Verdict::Breaks(0));
 }
@@ -192,7 +192,7 @@ fn an_entry_at_the_zero_time_is_read_there() {
 
 #[test]
 fn a_read_s_position_means_nothing() {
-    for position in [0, 1, 5, 6, 33, u16::MAX] {
+    for position in [0, 1, 5, 6, 129, u16::MAX] {
         accepts(&[Record { position, ..read_at(1, 9, 1) }]);
     }
 }
@@ -295,14 +295,16 @@ fn a_log_that_could_not_be_is_refused_first() {
 }
 
 #[test]
-fn a_log_has_32_entries_at_most() {
+fn a_committed_log_has_128_entries_at_most() {
     let rising =
         |length: u16| -> Vec<Entry> { (1..=length).map(|n| entry(1, 5, n, time(1, n))).collect() };
     let last = |n: u16| [read(1, 5, n, time(1, n)), write(1, n, 5, n, time(1, n))];
-    assert_eq!(check(&rising(32), &last(32)), Verdict::Accepted(2));
-    assert_eq!(check(&rising(33), &last(33)), Verdict::BadLog);
-    assert_eq!(check(&rising(33), &[last(33)[0]; 257]), Verdict::BadLog);
-    assert_eq!(check(&rising(33), &[]), Verdict::BadLog);
+    for n in [127, 128] {
+        assert_eq!(check(&rising(n), &last(n)), Verdict::Accepted(2));
+    }
+    assert_eq!(check(&rising(129), &last(129)), Verdict::BadLog);
+    assert_eq!(check(&rising(129), &[last(129)[0]; 257]), Verdict::BadLog);
+    assert_eq!(check(&rising(129), &[]), Verdict::BadLog);
 }
 
 /// From a text that breaks everything, mended one by one.

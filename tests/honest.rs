@@ -2,7 +2,7 @@
 //! asked with the latest time it had seen, and an answered write when it is acknowledged.
 
 use crate::lines::{read_line, write_bytes};
-use crate::model::{Cluster, Entry, Numbers, SERVERS, Step, Time, step};
+use crate::model::{COMMITTED_ENTRIES, Cluster, Entry, Numbers, SERVERS, Step, Time, step};
 use crate::prng::Prng;
 use crate::records::{Covered, READ, RECORD, RECORDS, Record, WRITE, is_written};
 
@@ -96,7 +96,7 @@ impl Keeping {
                 }
             }
             Step::MajorityRead { key, time: asked, .. } => {
-                let position = prng.below(40) as u16;
+                let position = prng.below(COMMITTED_ENTRIES + 8) as u16;
                 let record = Record { session: 0, kind: READ, key, value: number, position, time };
                 self.record(prng, asked, record);
             }

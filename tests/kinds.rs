@@ -2,8 +2,8 @@
 
 use super::Condition::*;
 use super::Role::*;
-use super::{Answer, Cluster, Condition, ENTRIES, Entry, KEY_MAX, KEY_OF_NOTHING, Numbers};
-use super::{SERVERS, Server, Step, Time, refuse_if};
+use super::{Answer, Cluster, Condition, ENTRIES, Entry, HIGHEST_POSITION, KEY_MAX};
+use super::{KEY_OF_NOTHING, Numbers, SERVERS, Server, Step, Time, refuse_if};
 
 /// Takes one step in place; a refused one leaves the record as it was.
 pub fn step(cluster: &mut Cluster, step: &Step) -> Answer {
@@ -46,10 +46,10 @@ fn refuse_key(key: u8) -> Result<(), Condition> {
     refuse_if(key > KEY_MAX, KeyAbove15)
 }
 
-/// A position that a log can have, and a term that an entry can have.
+/// A position that an entry can have, and a term that it can have.
 fn refuse_place(position: usize, term: u16) -> Result<(), Condition> {
     refuse_if(position == 0, PositionZero)?;
-    refuse_if(position > ENTRIES, PositionAbove32)?;
+    refuse_if(position > HIGHEST_POSITION, PositionAboveHighest)?;
     refuse_if(term == 0, TermZero)
 }
 

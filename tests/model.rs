@@ -1,7 +1,7 @@
 //! One small replica set that can be run: the cluster record, its steps and what comes back; the
 //! seventeen kinds are in `kinds.rs`, what refuses them is in `conditions.rs`, and what servers
-//! report to each other is in `reports.rs`. Written from document 01, requests [1], [3], [5] and [7]
-//! of document 02 and the rulings alone; `plain.rs` runs it over lines and `sessions.rs` steers by
+//! report to each other is in `reports.rs`. Written from document 01, requests [1], [3], [5], [7] and
+//! [9] of document 02 and the rulings alone; `plain.rs` runs it over lines and `sessions.rs` steers by
 //! it. Record-level tests are in `model_tests.rs`.
 
 pub use self::conditions::{CONDITIONS, Condition};
@@ -13,8 +13,12 @@ use self::reports::{Note, Notes, Queue};
 
 /// The most servers a cluster has, and the number of places in the record.
 pub const SERVERS: usize = 7;
-/// The most entries a log holds.
-pub const ENTRIES: usize = 32;
+/// The most entries a log keeps.
+pub const ENTRIES: usize = 128;
+/// The highest position that can be asked for, noted and reported.
+pub const HIGHEST_POSITION: usize = 128;
+/// The most entries of a whole committed log.
+pub const COMMITTED_ENTRIES: usize = 128;
 /// How many kinds of step there are.
 pub const KINDS: usize = 17;
 /// The highest key that can be written and read.
@@ -258,7 +262,7 @@ impl Numbers {
     /// The answer of the kinds that fill nothing.
     pub const NONE: Numbers = Numbers { number: 0, term: 0, time: Time::ZERO };
 
-    /// A position or length, which in a well-formed record is at most 32.
+    /// A position or length, which in a well-formed record is at most the highest position.
     fn place(place: usize) -> Numbers {
         Numbers { number: place as u16, ..Numbers::NONE }
     }

@@ -1,7 +1,7 @@
 //! Record-level tests of the model: document 01's twelve facts, and the cases that no lines reach
 //! from a fresh start. Those of kinds 14 and 15 are in `newest_tests.rs`, those of reports in
-//! `reports_tests.rs`, those of clients' times in `phones_tests.rs`, those of the saved form in
-//! `saved_tests.rs`.
+//! `reports_tests.rs`, those of clients' times in `phones_tests.rs`, those of full logs and the highest
+//! position in `limits_tests.rs`, those of the saved form in `saved_tests.rs`.
 
 use super::*;
 use crate::saved::{Refusal, save};
@@ -156,8 +156,8 @@ fn conditions_are_tested_in_order() {
     assert_eq!(refused(&[top, holding(&[1])], elect), BehindAMember);
     assert_eq!(refused(&[top, top], elect), TermAtLimit);
     assert_eq!(refused(&[top, top], Step::Elect { a: 0, set: 0x80 }), MemberOutside);
-    let far = Step::Acknowledged { a: 0, count: 0, position: 33, term: 1 };
-    assert_eq!(refused(&[top, top], far), PositionAbove32);
+    let far = Step::Acknowledged { a: 0, count: 0, position: 129, term: 1 };
+    assert_eq!(refused(&[top, top], far), PositionAboveHighest);
     let other_term = Step::Acknowledged { a: 0, count: 0, position: 1, term: 2 };
     assert_eq!(refused(&[holding(&[1]), top], other_term), OtherTerm);
 }
@@ -244,7 +244,7 @@ fn an_equal_entry_above_the_first_difference_is_not_common() {
 fn only_count_0_is_acknowledged() {
     let holder = Server { commit_point: 1, ..holding(&[1, 1]) };
     let asked = |count: u8, (position, term)| Step::Acknowledged { a: 0, count, position, term };
-    let places = [(1, 1), (2, 1), (3, 1), (1, 2), (0, 1), (33, 1), (65_535, 1), (1, 0)];
+    let places = [(1, 1), (2, 1), (3, 1), (1, 2), (0, 1), (129, 1), (65_535, 1), (1, 0)];
     for servers in [2, 3, 7] {
         let mut record = cluster(&[holder; SERVERS][..usize::from(servers)]);
         for count in 0..=255 {
@@ -328,7 +328,7 @@ const BROKEN: &[fn(&mut Cluster)] = &[
     |c| c.servers[1].role = Primary,
     |c| c.servers[1].wall_clock = 0,
     |c| c.servers[0].log.entries[3].term = 1,
-    |c| c.servers[0].log.entries[31].key = 1,
+    |c| c.servers[0].log.entries[ENTRIES - 1].key = 1,
     |c| c.servers[1].log.entries[0].value = 1,
     |c| c.servers[1].log.entries[0].key = 255,
     |c| c.servers[1].log.entries[1].time.p = 1,
@@ -339,7 +339,7 @@ const BROKEN: &[fn(&mut Cluster)] = &[
     |c| c.servers[2].wall_clock = 1,
     |c| c.servers[3].cluster_time = Time { p: 0, l: 1 },
     |c| c.servers[6].log.length = 1,
-    |c| c.servers[6].log.entries[31].time.l = 1,
+    |c| c.servers[6].log.entries[ENTRIES - 1].time.l = 1,
 ];
 
 /// One step of each kind that looks at the record, and a write that carries a time.
@@ -394,7 +394,7 @@ fn odd_servers() -> Vec<Server> {
     let mut odd = vec![late, early, first, holding(&[2, 2]), primary(2, &[1, 2]), primary(2, &[])];
     odd.extend(others(entry(1, 1)).map(|other| with(&holding(&[1]), 1, other)));
     odd.extend([1, 2].map(|commit_point| Server { commit_point, ..late }));
-    odd.extend([31, 32].map(|length| primary(3, &[3; ENTRIES][..length])));
+    odd.extend([ENTRIES - 1, ENTRIES].map(|length| primary(3, &[3; ENTRIES][..length])));
     odd.extend([1, 2].map(|position| nothing_at(&primary(2, &[1, 2]), position)));
     odd.push(Server { commit_point: 2, ..nothing_at(&primary(2, &[1, 2]), 2) });
     odd
@@ -413,6 +413,8 @@ fn every_step_from_an_odd_record_keeps_it_well_formed() {
     }
 }
 
+#[path = "limits_tests.rs"]
+mod limits;
 #[path = "newest_tests.rs"]
 mod newest;
 #[path = "phones_tests.rs"]

@@ -63,14 +63,14 @@ fn kind_14_and_a_write_differ_in_key_and_value_alone() {
 }
 
 #[test]
-fn kind_14_at_31_and_at_32_entries() {
+fn kind_14_at_127_and_at_128_entries() {
     let early = |length: usize| {
-        let cluster_time = Time { p: 3, l: 32 };
+        let cluster_time = Time { p: 3, l: 128 };
         Server { cluster_time, ..primary(3, &[3; ENTRIES][..length]) }
     };
-    let time = Time { p: 3, l: 33 };
-    assert_eq!(answered(early(31), NOTHING), Ok(Numbers { number: 32, term: 3, time }));
-    assert_eq!(refused_by(early(32), NOTHING), (LogFull, 6));
+    let time = Time { p: 3, l: 129 };
+    assert_eq!(answered(early(127), NOTHING), Ok(Numbers { number: 128, term: 3, time }));
+    assert_eq!(refused_by(early(128), NOTHING), (LogFull, 6));
 }
 
 #[test]
@@ -177,13 +177,13 @@ fn each_refusal_of_kind_15() {
         (newest(16, 2, 2), KeyAbove15, 3),
         (newest(255, 2, 2), KeyOfNothing, 3),
         (newest(5, 0, 2), PositionZero, 3),
-        (newest(5, 33, 2), PositionAbove32, 3),
-        (newest(5, 256 + 2, 2), PositionAbove32, 3),
+        (newest(5, 129, 2), PositionAboveHighest, 3),
+        (newest(5, 256 + 2, 2), PositionAboveHighest, 3),
         (newest(5, 2, 0), TermZero, 3),
         (newest(5, 2, 3), PrimaryOfOtherTerm, 4),
         (newest(5, 1, 1), PrimaryOfOtherTerm, 4),
         (newest(5, 5, 2), NoEntry, 10),
-        (newest(5, 32, 2), NoEntry, 10),
+        (newest(5, 128, 2), NoEntry, 10),
         (newest(5, 1, 2), OtherTerm, 10),
         (newest(5, 4, 2), CommitPointBelow, 8),
     ];
@@ -203,7 +203,7 @@ fn refusals_of_kind_15_come_in_order() {
         (down, out, ServerOutside),
         (down, newest(16, 0, 0), KeyAbove15),
         (down, newest(5, 0, 0), PositionZero),
-        (down, newest(5, 33, 0), PositionAbove32),
+        (down, newest(5, 129, 0), PositionAboveHighest),
         (down, newest(5, 5, 0), TermZero),
         (down, newest(5, 5, 1), NotPrimary),
         (leader(), newest(5, 5, 1), PrimaryOfOtherTerm),

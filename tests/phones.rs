@@ -20,8 +20,8 @@ impl Run {
             0..=9 => self.time_around(cluster_time),
             10..=21 => self.time_elsewhere(),
             22..=29 => self.time_around(Time { p: wall_clock, l: few }),
-            30..=32 => self.ahead(a, AHEAD_MAX + 1),
-            33 => self.ahead(a, AHEAD_MAX),
+            30 => self.ahead(a, AHEAD_MAX),
+            31..=33 => self.ahead(a, AHEAD_MAX + 1),
             34 | 35 => Time { p: LAST, l: few },
             36 => Time { p: wall_clock - wall_clock.min(1), l: LAST },
             37 | 38 => Time { p: latest, l: LAST },
@@ -152,6 +152,7 @@ impl Run {
         let new = self.elect_of(self.everyone() & !(1 << old));
         self.offer(Step::Hears { a: new, b: old });
         self.offer_entry(new);
+        self.offer(Step::WritesNothing { a: new });
     }
 
     /// Phones at a clock from which the last p is 601 above, 600, or less, so that a sum would have

@@ -2,6 +2,7 @@
 //! between any two.
 
 use super::*;
+use model::{Role, Server};
 
 type Take = fn(&mut Cluster, &Step) -> Answer;
 
@@ -163,23 +164,53 @@ fn a_session_of_a_misleading_note() {
     ]);
 }
 
+/// A step and its answer, both filled up with zeros.
+fn line(step: &str, answer: &str) -> (String, String) {
+    (format!("{step:0<26}"), format!("{answer:0<18}"))
+}
+
+/// Two servers start, and server 0 is elected.
+fn two_begin() -> Vec<(String, String)> {
+    vec![line("0002", ""), line("01000003", "0000000001")]
+}
+
+/// Server 0 writes its nth entry, server 1 pulls so many, server 0 covers so many.
+fn write(n: u8) -> (String, String) {
+    line("06000000050029", &format!("0000{n:02x}0001000100{:02x}", n - 1))
+}
+
+fn pull(n: u8) -> (String, String) {
+    line("0401", &format!("0000{n:02x}"))
+}
+
+fn advance(n: u8) -> (String, String) {
+    line("07", &format!("0000{n:02x}"))
+}
+
 /// The ninth report finds a full queue, so the ninth entry passes only with the tenth report.
 #[test]
 fn a_session_of_nine_reports() {
-    let line = |step: &str, answer: String| (format!("{step:0<26}"), format!("{answer:0<18}"));
-    let write = |n: u8| {
-        let stamp = format!("0000{n:02x}0001000100{:02x}", n - 1);
-        line("06000000050029", stamp)
-    };
-    let pull = |n: u8| line("0401", format!("0000{n:02x}"));
-    let advance = |n: u8| line("07", format!("0000{n:02x}"));
-    let done = |step: &str| line(step, String::new());
-    let refused = |step: &str| line(step, "05".to_string());
-    let mut session = vec![done("0002"), line("01000003", "0000000001".to_string())];
+    let mut session = two_begin();
     session.extend((1..=9).flat_map(|n| [write(n), pull(n)]));
-    session.extend((1..=8).map(|_| done("10")));
-    session.extend([refused("10"), advance(8), refused("07")]);
-    session.extend([write(10), pull(10), done("10"), advance(10)]);
+    session.extend((1..=8).map(|_| line("10", "")));
+    session.extend([line("10", "05"), advance(8), line("07", "05")]);
+    session.extend([write(10), pull(10), line("10", ""), advance(10)]);
+    is_answered(&session);
+}
+
+/// A log takes 128 entries, and all are pulled, reported, covered and asked for; there is no 129th
+/// position.
+#[test]
+fn a_session_of_a_full_log() {
+    let mut session = two_begin();
+    session.extend((1..=127).map(write));
+    session.extend([line("0c000000000080000100", "0a"), line("0c000000000081000100", "03")]);
+    session.extend([write(128), line("06000000050029", "06"), line("0e", "06")]);
+    session.extend([pull(128), line("0401", "05"), line("10", ""), advance(128)]);
+    session.extend([line("0301", ""), line("0c010000000080000100", "00008000010001007f")]);
+    session.extend([line("0f000000050080000100", "00002900000001007f")]);
+    session.extend([line("0f000000050081000100", "03"), line("0c010000000081000100", "03")]);
+    session.extend([line("0b01000005000000000001007f", "00002900000001007f")]);
     is_answered(&session);
 }
 
@@ -220,7 +251,8 @@ fn a_record_is_loaded_first_and_saved_last_or_refused() {
     const TICK: &str = "08010000000000000000000000\n";
     const DONE: &str = "000000000000000000\n";
     let server = |wall_clock| format!("0100000000000000000000{wall_clock:04x}00000000\n");
-    let record = |wall_clock| format!("000102\n{}{}", server(1), server(wall_clock));
+    let record = |wall_clock| format!("000202\n{}{}", server(1), server(wall_clock));
+    let of_edition_1 = |wall_clock| record(wall_clock).replacen("0002", "0001", 1);
     let file = std::env::temp_dir().join(format!("plain-tests-{}", std::process::id()));
     let file = file.to_str().unwrap();
     // How a run ends that may load a file and that saves to it, its answers, and what the file holds.
@@ -239,10 +271,52 @@ fn a_record_is_loaded_first_and_saved_last_or_refused() {
     assert_eq!(ran(false, "old", &begins), ended(&DONE.repeat(2), &record(2)));
     assert_eq!(ran(true, &record(1), TICK), ended(DONE, &record(2)));
     assert_eq!(ran(true, &record(7), ""), ended("", &record(7)));
+    assert_eq!(ran(true, &of_edition_1(1), TICK), ended(DONE, &record(2)));
+    assert_eq!(ran(true, &of_edition_1(7), ""), ended("", &record(7)));
     assert_eq!(ran(true, "old", &begins), refused(1, "", "old"));
     assert_eq!(ran(true, &record(0), &begins), refused(2, "", &record(0)));
+    assert_eq!(ran(true, &of_edition_1(0), &begins), refused(2, "", &of_edition_1(0)));
     assert_eq!(ran(false, "old", TICK), refused(2, "020000000000000000\n", "old"));
     fs::remove_file(file).unwrap();
+}
+
+/// What the program of edition 1 saved, and a session that goes on from there.
+const STORED: [(&str, &str); 5] = [
+    (include_str!("editions/1/fresh.saved"), include_str!("editions/1/fresh.steps")),
+    (include_str!("editions/1/two.saved"), include_str!("editions/1/two.steps")),
+    (include_str!("editions/1/split.saved"), include_str!("editions/1/split.steps")),
+    (include_str!("editions/1/full.saved"), include_str!("editions/1/full.steps")),
+    (include_str!("editions/1/far.saved"), include_str!("editions/1/far.steps")),
+];
+
+/// What some stored server has, so that a program which can't load it is seen.
+const STORED_SORTS: [fn(&Server) -> bool; 8] = [
+    |server| server.log.length == 32,
+    |server| server.notes.iter().any(|note| note.length == 32),
+    |server| server.queue.reports.iter().any(|report| report.note.length == 32),
+    |server| server.queue.is_full(),
+    |server| server.source.is_some(),
+    |server| server.role == Role::Primary,
+    |server| server.log.entries.iter().any(|entry| entry.writes_nothing()),
+    |server| server.cluster_time.l == u16::MAX,
+];
+
+#[test]
+fn what_edition_1_saved_is_carried_on() {
+    let mut servers = Vec::new();
+    for (saved, steps) in STORED {
+        let record = load(saved.as_bytes()).expect(saved);
+        assert_eq!(save(&record), Ok(saved.replacen("0001", "0002", 1).into_bytes()));
+        servers.extend_from_slice(record.counted());
+        let carried = answers_from(record, step, BLOCK, steps.as_bytes());
+        assert!(carried.0.lines().all(|answer| answer.starts_with("00")), "{}", carried.0);
+        assert_eq!(answers_from(record, trusting_step, BLOCK, steps.as_bytes()), carried);
+        let text = save(&carried.1).unwrap();
+        assert!(text.starts_with(b"0002"));
+        assert_eq!(load(&text), Ok(carried.1));
+    }
+    assert!(STORED_SORTS.iter().all(|is_sort| servers.iter().any(is_sort)));
+    assert_eq!(STORED.map(|(saved, _)| load(saved.as_bytes()).unwrap().count), [2, 2, 3, 7, 4]);
 }
 
 /// The values of the committed log of a run, and how many starts there were.

@@ -1,7 +1,8 @@
 //! What happens to reports in a session: they are taken, passed on, held up and lost.
 
 use super::Run;
-use crate::model::{ENTRIES, Step};
+use crate::model::Step;
+use crate::model::reports::REPORTS;
 
 impl Run {
     /// Mostly takes all the reports that wait at a, and asks for one more.
@@ -79,7 +80,7 @@ impl Run {
         let new = if split { self.elect_of(rest) } else { old };
         self.some_entry(old);
         let others = self.others(&[old, new]);
-        for _ in 0..ENTRIES / 2 {
+        for _ in 0..2 * REPORTS {
             if !self.at(new).queue.is_full() {
                 self.some_entry(new);
                 for &a in &others {

@@ -1,7 +1,7 @@
 //! What servers tell each other of their logs: reports, the queues in which they wait, and the
 //! notes that are made of them.
 
-use super::{ENTRIES, SERVERS, Server};
+use super::{HIGHEST_POSITION, SERVERS, Server};
 
 /// The most reports that wait at a server.
 pub const REPORTS: usize = 8;
@@ -45,7 +45,7 @@ impl Note {
     }
 
     fn in_range(&self) -> bool {
-        (1..=ENTRIES).contains(&self.length) && (1..=self.term).contains(&self.last_term)
+        (1..=HIGHEST_POSITION).contains(&self.length) && (1..=self.term).contains(&self.last_term)
     }
 }
 

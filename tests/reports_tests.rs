@@ -8,6 +8,8 @@ const TAKES: Step = Step::TakesReport { a: 0 };
 const ADVANCES: Step = Step::Advances { a: 0 };
 const PULLS: Step = Step::Pulls { a: 0, b: 1 };
 const ROLLS_BACK: Step = Step::RollsBack { a: 0, b: 1 };
+/// The greatest length that a note and a report tell.
+const LONGEST: usize = HIGHEST_POSITION;
 
 pub(super) fn report(who: usize, note: Note) -> Report {
     Report { who, note }
@@ -27,7 +29,7 @@ fn many(count: usize) -> Vec<Report> {
 
 /// Three servers, each with notes, reports and a source: the first two come after each other.
 pub(super) fn busy() -> [Server; 3] {
-    let notes = [(0, note(9, 1, 32)), (1, note(2, 2, 2)), (2, note(3, 3, 1))];
+    let notes = [(0, note(9, 1, LONGEST)), (1, note(2, 2, 2)), (2, note(3, 3, 1))];
     let reports = [report(1, note(2, 1, 7)), report(0, note(9, 9, 9)), report(2, note(1, 1, 1))];
     let noted = |server: Server| noting(told(server, &reports), &notes);
     let [first, second] = [primary(2, &[1, 2, 2]), holding(&[1, 2])].map(noted);
@@ -40,7 +42,7 @@ const BROKEN_REPORTS: &[fn(&mut Cluster)] = &[
     |c| c.servers[1].notes[6] = note(1, 1, 1),
     |c| c.servers[1].notes[6].term = 1,
     |c| c.servers[0].notes[1] = note(2, 2, 0),
-    |c| c.servers[0].notes[1] = note(2, 2, ENTRIES + 1),
+    |c| c.servers[0].notes[1] = note(2, 2, LONGEST + 1),
     |c| c.servers[0].notes[1] = note(2, 2, usize::MAX),
     |c| c.servers[0].notes[1] = note(2, 0, 2),
     |c| c.servers[0].notes[1] = note(2, 3, 2),
@@ -58,7 +60,7 @@ const BROKEN_REPORTS: &[fn(&mut Cluster)] = &[
     |c| c.servers[1].queue.reports[2].who = 6,
     |c| c.servers[1].queue.reports[2].who = usize::MAX,
     |c| c.servers[0].queue.reports[1].note = note(9, 9, 0),
-    |c| c.servers[0].queue.reports[1].note = note(9, 9, ENTRIES + 1),
+    |c| c.servers[0].queue.reports[1].note = note(9, 9, LONGEST + 1),
     |c| c.servers[0].queue.reports[1].note = note(9, 0, 9),
     |c| c.servers[0].queue.reports[1].note = note(9, 10, 9),
     |c| c.servers[0].queue.reports[1].note = note(0, 0, 9),
@@ -90,7 +92,8 @@ fn each_broken_clause_about_reports_is_refusal_2() {
 
 #[test]
 fn notes_and_reports_at_their_edges_are_well_formed() {
-    let edges = [note(1, 1, 1), note(65_535, 1, 32), note(65_535, 65_535, 1), note(2, 2, 32)];
+    let edges =
+        [note(1, 1, 1), note(65_535, 1, LONGEST), note(65_535, 65_535, 1), note(2, 2, LONGEST)];
     for edge in edges {
         let notes = [(0, edge), (1, edge), (2, edge)];
         let server = told(noting(holding(&[]), &notes), &[report(2, edge); REPORTS]);
@@ -216,7 +219,7 @@ fn a_note_gives_way_by_term_then_last_term_then_length() {
         note(4, 1, 2),
         note(4, 2, 1),
         note(4, 4, 1),
-        note(4, 4, 32),
+        note(4, 4, LONGEST),
         note(5, 1, 1),
         note(256, 2, 3),
     ];
@@ -311,7 +314,7 @@ fn two_that_came_after_each_other_send_a_report_round() {
 
 #[test]
 fn a_report_of_a_later_term_changes_no_term_and_no_role() {
-    let came = report(1, note(65_535, 65_535, 32));
+    let came = report(1, note(65_535, 65_535, LONGEST));
     for server in [primary(2, &[1]), holding(&[1]), holding(&[])] {
         let record = after(&[told(server, &[came]), holding(&[])], TAKES);
         assert_eq!(record, cluster(&[noting(server, &[(1, came.note)]), holding(&[])]));
@@ -339,8 +342,14 @@ fn kind_7_counts_itself_and_others_by_their_notes() {
 
 #[test]
 fn kind_7_asks_for_both_terms_and_the_length() {
-    let passing = [note(4, 4, 1), note(4, 4, 32)];
-    let others = [note(4, 3, 1), note(4, 1, 32), note(3, 3, 32), note(5, 4, 32), note(5, 5, 32)];
+    let passing = [note(4, 4, 1), note(4, 4, LONGEST)];
+    let others = [
+        note(4, 3, 1),
+        note(4, 1, LONGEST),
+        note(3, 3, LONGEST),
+        note(5, 4, LONGEST),
+        note(5, 5, LONGEST),
+    ];
     assert!(passing.iter().all(|&noted| passes(2, &[(1, noted)])));
     assert!(!others.iter().any(|&noted| passes(2, &[(1, noted)])));
     let at_2 = |noted: Note| noting(primary(4, &[4, 4]), &[(1, noted)]);
@@ -385,7 +394,7 @@ fn kind_7_looks_into_no_other_log() {
     assert_eq!(refused(&[leader, same, same], ADVANCES), NothingPasses);
     let others = [holding(&[]), Server { term: 9, ..holding(&[]) }, holding(&[1, 5, 5, 5])];
     for other in others {
-        let noted = noting(leader, &[(1, note(4, 4, 2)), (2, note(4, 4, 32))]);
+        let noted = noting(leader, &[(1, note(4, 4, 2)), (2, note(4, 4, LONGEST))]);
         let advanced = after(&[noted, other, other], ADVANCES);
         assert_eq!(advanced, cluster(&[Server { commit_point: 3, ..noted }, other, other]));
     }
@@ -462,8 +471,8 @@ fn every_step_from_an_odd_record_with_reports_keeps_it_well_formed() {
     let odd = [
         told(first, &many(REPORTS)),
         told(Server { role: Secondary, ..first }, &many(REPORTS)),
-        told(second, &[report(1, note(65_535, 1, 32))]),
-        noting(primary(2, &[1, 2, 2]), &[(1, note(2, 2, 32)), (2, note(2, 2, 32))]),
+        told(second, &[report(1, note(65_535, 1, LONGEST))]),
+        noting(primary(2, &[1, 2, 2]), &[(1, note(2, 2, LONGEST)), (2, note(2, 2, LONGEST))]),
         second,
         holding(&[]),
     ];

@@ -4,7 +4,7 @@
 
 use self::Place::*;
 use super::{Sight, Taken};
-use crate::model::{Condition, Condition::*, ENTRIES, Step};
+use crate::model::{Condition, Condition::*, HIGHEST_POSITION, Step};
 
 const ABOVE: Result<(), Condition> = Err(CountAbove);
 const RETIRED: Result<(), Condition> = Err(CountRetired);
@@ -20,9 +20,9 @@ pub const SIGHTS: &[Sight] = &[
     (12, Err(PositionZero), "count 0", |t| t.asks(0, Outside)),
     (12, Err(PositionZero), "count 1", |t| t.asks(1, Outside)),
     (12, Err(PositionZero), "count n", |t| t.asks(t.all(), Outside)),
-    (12, Err(PositionAbove32), "count 0", |t| t.asks(0, Outside)),
-    (12, Err(PositionAbove32), "count 1", |t| t.asks(1, Outside)),
-    (12, Err(PositionAbove32), "count n", |t| t.asks(t.all(), Outside)),
+    (12, Err(PositionAboveHighest), "count 0", |t| t.asks(0, Outside)),
+    (12, Err(PositionAboveHighest), "count 1", |t| t.asks(1, Outside)),
+    (12, Err(PositionAboveHighest), "count n", |t| t.asks(t.all(), Outside)),
     (12, Err(TermZero), "of a retired count", |t| t.is_retired()),
     (12, RETIRED, "count 1, covered", |t| t.asks(1, Covered)),
     (12, RETIRED, "count 1, where 8 applies", |t| t.asks(1, Uncovered)),
@@ -66,7 +66,7 @@ impl Taken<'_> {
         let Step::Acknowledged { position, term: term @ 1.., .. } = self.step else { return None };
         let position = usize::from(position);
         Some(match self.entry() {
-            _ if position == 0 || position > ENTRIES => Outside,
+            _ if position == 0 || position > HIGHEST_POSITION => Outside,
             Some(entry) if entry.term == term && position <= self.a().commit_point => Covered,
             Some(entry) if entry.term == term => Uncovered,
             _ => Free,

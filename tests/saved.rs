@@ -1,7 +1,7 @@
 //! The saved form of a record, written and read, from docs/SAVED.md alone. A text is read in two
 //! rounds: first its frames are taken off one after the other, which asks for the shape and nothing
-//! else; then they are made a record of, unless they say what no record has. Tests are in
-//! `saved_tests.rs`.
+//! else; then they are made a record of, unless they say what no record has, or none that the text's
+//! own edition allows. Tests are in `saved_tests.rs`.
 
 use crate::lines::{digit, write_bytes};
 use crate::model::reports::{Note, Notes, Report};
@@ -23,7 +23,33 @@ impl Refusal {
     }
 }
 
-const EDITION: u8 = 1;
+/// What is allowed in a text of an edition, whatever later ones allow; the frames of all editions
+/// are the same but for its number.
+pub struct Edition {
+    number: u8,
+    /// The most entries of a log.
+    entries: usize,
+    /// The highest position in a note or a report.
+    highest_position: usize,
+}
+
+/// The editions that can be read, by their numbers.
+pub const EDITIONS: [Edition; 2] = [
+    Edition { number: 1, entries: 32, highest_position: 32 },
+    Edition { number: 2, entries: 128, highest_position: 128 },
+];
+/// The edition that is written.
+const WRITTEN: &Edition = &EDITIONS[1];
+
+impl Edition {
+    fn allows(&self, record: &Cluster) -> bool {
+        record.counted().iter().all(|Server { log, notes, queue, .. }| {
+            let reports = queue.reports[..queue.length].iter().map(|report| report.note);
+            let mut told = notes.iter().copied().chain(reports);
+            log.length <= self.entries && told.all(|note| note.length <= self.highest_position)
+        })
+    }
+}
 
 // The sorts of frames, each told by a frame's first byte.
 const FIRST: u8 = 0;
@@ -41,11 +67,16 @@ type NoteFields = [u8; 7];
 
 /// The text of a record; one that isn't well formed has none.
 pub fn save(cluster: &Cluster) -> Result<Vec<u8>, Refusal> {
-    if !cluster.well_formed() {
+    save_as(WRITTEN, cluster)
+}
+
+/// The text in some edition, which may not allow the record.
+pub fn save_as(edition: &Edition, cluster: &Cluster) -> Result<Vec<u8>, Refusal> {
+    if !cluster.well_formed() || !edition.allows(cluster) {
         return Err(Refusal::Value);
     }
     let mut text = Vec::new();
-    put_frame(&mut text, FIRST, &[&[EDITION, cluster.count as u8]]);
+    put_frame(&mut text, FIRST, &[&[edition.number, cluster.count as u8]]);
     for server in cluster.counted() {
         put_server(&mut text, server);
     }
@@ -92,10 +123,21 @@ fn pairs<const N: usize>(numbers: [u16; N]) -> Vec<u8> {
     numbers.map(u16::to_be_bytes).concat()
 }
 
-/// The record that has this text.
+/// The record that has this text in the text's own edition.
 pub fn load(text: &[u8]) -> Result<Cluster, Refusal> {
-    let told = read_shape(text).ok_or(Refusal::Shape)?;
-    record_of(&told).ok_or(Refusal::Value)
+    load_knowing(&EDITIONS, text)
+}
+
+/// The same by a reader that knows these editions alone.
+pub fn load_knowing(known: &[Edition], text: &[u8]) -> Result<Cluster, Refusal> {
+    let (edition, told) = read_shape(known, text).ok_or(Refusal::Shape)?;
+    record_of(&told).filter(|record| edition.allows(record)).ok_or(Refusal::Value)
+}
+
+/// Whether a text is the record's in some edition, which then is the text's own.
+#[cfg(test)]
+pub fn is_form_of(record: &Cluster, text: &[u8]) -> bool {
+    EDITIONS.iter().any(|edition| save_as(edition, record).as_deref() == Ok(text))
 }
 
 /// What the frames tell of a server, as many as they announce, whatever it is worth.
@@ -106,14 +148,12 @@ struct Told {
     reports: Vec<NoteFields>,
 }
 
-fn read_shape(text: &[u8]) -> Option<Vec<Told>> {
+fn read_shape<'a>(known: &'a [Edition], text: &[u8]) -> Option<(&'a Edition, Vec<Told>)> {
     let mut text = Unread(text.iter());
-    let [edition, count]: FirstFields = text.frame(FIRST)?;
-    if edition != EDITION {
-        return None;
-    }
+    let [number, count]: FirstFields = text.frame(FIRST)?;
+    let edition = known.iter().find(|edition| edition.number == number)?;
     let told: Option<Vec<Told>> = (0..count).map(|_| text.server()).collect();
-    if text.0.next().is_some() { None } else { told }
+    if text.0.next().is_some() { None } else { Some((edition, told?)) }
 }
 
 /// The characters of a text that nothing has been made of yet.

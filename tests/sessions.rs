@@ -23,10 +23,11 @@ mod texts;
 
 use climbs::{TERMS, WALL_CLOCKS};
 use diaries::write_diaries;
+use draws::HIGHEST;
 use frames::{frame_of, line_of};
 use lies::SORTS;
 use lines::read_line;
-use model::{Answer, CONDITIONS, Cluster, Condition, ENTRIES, KINDS, Step, step};
+use model::{Answer, CONDITIONS, Cluster, Condition, ENTRIES, KINDS, Step, Time, step};
 use prng::Prng;
 use std::io::{self, Write};
 use std::process::ExitCode;
@@ -49,8 +50,12 @@ sessions --help        writes this
 const LONG_RUN: usize = 200_000;
 /// The limit of a short climb, so that terms and wall clocks of more than one byte are common.
 const PAST_A_BYTE: u16 = 280;
-/// The lines that a short climb or a session of overwriting has room in.
+/// The lines that a short climb, or a session of full logs or of overwriting, has room in.
 const SPECIAL: usize = 1_500;
+/// How often a session of overwriting fills a log.
+const FILLINGS: usize = 6;
+/// How often a session of full logs goes on once they are full.
+const AFTER_FILLING: usize = 150;
 
 fn main() -> ExitCode {
     let arguments: Vec<String> = std::env::args().skip(1).collect();
@@ -191,6 +196,16 @@ impl Run {
         self.say(Step::Start { servers });
     }
 
+    /// A session of few servers whose logs are full before all else happens.
+    fn brim(&mut self) {
+        let servers = 2 + self.prng.below(2) as u8;
+        self.say(Step::Start { servers });
+        self.fill();
+        for _ in 0..AFTER_FILLING {
+            self.go_on();
+        }
+    }
+
     /// Hands over each session as it ends, so that few lines are kept.
     fn sessions_until(&mut self, lines: usize, output: &mut impl Write) -> io::Result<()> {
         while self.written < lines {
@@ -199,6 +214,7 @@ impl Run {
                 0..=2 if room => self.overwriting(),
                 3 if room => self.climb(&TERMS, PAST_A_BYTE),
                 4 if room => self.climb(&WALL_CLOCKS, PAST_A_BYTE),
+                5..=7 if room => self.brim(),
                 _ => self.session(lines),
             }
             self.hand_over(output)?;
@@ -281,7 +297,7 @@ impl Run {
 
     /// A few entries, or rarely as many as the log takes.
     fn write_some(&mut self, a: u8) {
-        let entries = if self.prng.one_in(100) { ENTRIES } else { self.prng.below(3) };
+        let entries = if self.prng.one_in(400) { ENTRIES } else { self.prng.below(3) };
         for _ in 0..entries {
             self.offer_entry(a);
         }
@@ -358,39 +374,71 @@ impl Run {
         self.offer(Step::Advances { a: new });
     }
 
-    /// A log of 31 and of 32 at a write, or at what writes nothing.
+    /// A log is filled, others come after it, and it is covered. Where a majority is there without
+    /// its first primary, that one may have an entry of its own, and then it has to roll back.
     fn fill(&mut self) {
-        let a = self.elect_of(self.everyone());
-        let nothing = self.prng.one_in(2);
-        for _ in self.at(a).log.length..=ENTRIES {
-            let entry = if nothing { Step::WritesNothing { a } } else { self.write_by(a) };
-            self.say(entry);
+        let old = self.elect_of(self.everyone());
+        let rest = self.everyone() & !(1 << old);
+        let split = self.cluster.is_majority(rest.count_ones() as usize) && self.prng.one_in(2);
+        let a = if split { self.elect_of(rest) } else { old };
+        if split {
+            self.offer_entry(old);
+        }
+        self.fill_up(a);
+        if split {
+            self.offer(Step::Hears { a: old, b: a });
+            self.catch_up(old, a);
         }
         self.follow(a);
         self.take_in(a);
         self.offer(Step::Advances { a });
-        self.ask_newest(a);
+        self.ask_at_the_end(a);
+    }
+
+    /// A log of 127 and of 128 at a write, or at what writes nothing. Where a clock is at its end
+    /// nothing helps, so it isn't tried for ever.
+    fn fill_up(&mut self, a: u8) {
+        let sort = self.prng.below(3);
+        for _ in 0..2 * ENTRIES {
+            let entry = match sort {
+                0 => Step::WritesNothing { a },
+                1 => self.write_for(a, Time::ZERO),
+                _ => self.write_by(a),
+            };
+            if self.at(a).log.length == ENTRIES {
+                return self.say(entry);
+            }
+            self.offer(entry);
+        }
+    }
+
+    /// Asks a for the highest position and the one above it.
+    fn ask_at_the_end(&mut self, a: u8) {
+        let term = self.at(a).log.last_term();
+        for position in [HIGHEST, HIGHEST + 1] {
+            self.offer(Step::Acknowledged { a, count: 0, position, term });
+            self.offer(Step::NewestRead { a, key: 0, position, term });
+        }
     }
 
     /// A session of rounds in which a log is filled and rolled back again, so that l grows far
     /// beyond what one log holds.
     fn overwriting(&mut self) {
         self.begin();
-        for kept in 0..ENTRIES {
-            self.overwrite(kept);
+        for _ in 0..FILLINGS {
+            self.overwrite();
         }
     }
 
-    /// Fills a log that is then rolled back to one with a single entry more than are kept.
-    fn overwrite(&mut self, kept: usize) {
+    /// Fills a log that is then rolled back to one with a single entry more than both have.
+    fn overwrite(&mut self) {
         let everyone = self.everyone();
         let old = self.elect_of(everyone);
         let latest = self.with_most(everyone, |server| server.cluster_time);
         self.offer(Step::Hears { a: old, b: latest });
         let new = self.elect_of(everyone & !(1 << old));
-        for a in std::iter::once(new).chain((kept..ENTRIES).map(|_| old)) {
-            self.offer_entry(a);
-        }
+        self.offer_entry(new);
+        self.fill_up(old);
         self.offer(Step::Hears { a: old, b: new });
         self.offer(Step::RollsBack { a: old, b: new });
         self.follow(new);
