@@ -63,8 +63,8 @@ impl Taken<'_> {
 
     /// None where the term is out of range, so that it isn't the position that decides.
     fn place(&self) -> Option<Place> {
-        let Step::Acknowledged { position, term: term @ 1.., .. } = self.step else { return None };
-        let position = usize::from(position);
+        let Step::Acknowledged { term: term @ 1.., .. } = self.step else { return None };
+        let position = self.position();
         Some(match self.entry() {
             _ if position == 0 || position > HIGHEST_POSITION => Outside,
             Some(entry) if entry.term == term && position <= self.a().commit_point => Covered,

@@ -7,6 +7,8 @@ use crate::model::{Answer, Cluster, Condition, Condition::*, Entry, Role::*, SER
 use crate::model::{Server, Step};
 use std::cmp::Ordering::{self, *};
 
+#[path = "limits.rs"]
+mod limits;
 #[path = "retired.rs"]
 mod retired;
 #[path = "stamps.rs"]
@@ -33,10 +35,11 @@ const DONE: Result<(), Condition> = Ok(());
 const NONE_PASSES: Result<(), Condition> = Err(NothingPasses);
 
 /// How many sights there are.
-pub const COUNT: usize = SIGHTS.len() + retired::SIGHTS.len() + stamps::SIGHTS.len();
+pub const COUNT: usize =
+    SIGHTS.len() + limits::SIGHTS.len() + retired::SIGHTS.len() + stamps::SIGHTS.len();
 
 pub fn sights() -> impl Iterator<Item = &'static Sight> {
-    SIGHTS.iter().chain(retired::SIGHTS).chain(stamps::SIGHTS)
+    SIGHTS.iter().chain(limits::SIGHTS).chain(retired::SIGHTS).chain(stamps::SIGHTS)
 }
 
 /// Those of reports, and of reads and commit points that go by them.
@@ -200,13 +203,18 @@ impl Taken<'_> {
 
 /// What reads and commit points are about.
 impl Taken<'_> {
-    fn entry(&self) -> Option<&Entry> {
+    /// The position that is asked about; 0 by other kinds, where no entry is.
+    fn position(&self) -> usize {
         match self.step {
             Step::Acknowledged { position, .. } | Step::NewestRead { position, .. } => {
-                self.a().log.entry(position.into())
+                position.into()
             }
-            _ => None,
+            _ => 0,
         }
+    }
+
+    fn entry(&self) -> Option<&Entry> {
+        self.a().log.entry(self.position())
     }
 
     fn shown(&self) -> u16 {

@@ -2,7 +2,7 @@
 //! time which was refused, or went to another server, did not.
 
 use super::{DONE, Sight, Taken};
-use crate::model::{AHEAD_MAX, Answer, Condition, Condition::*, ENTRIES, Role::*};
+use crate::model::{AHEAD_MAX, Answer, Condition, Condition::*, Role::*};
 use crate::model::{SERVERS, Server, Step, Time};
 
 /// The last p and the last l.
@@ -65,9 +65,9 @@ pub const SIGHTS: &[Sight] = &[
     (6, AHEAD, "by 601 at 65,535", |t| t.is_ahead_by(AHEAD_MAX + 1) && t.client().p == LAST),
     (6, AHEAD, "at 65,535", |t| t.client().p == LAST),
     (6, AHEAD, "at a secondary", |t| t.a().role == Secondary),
-    (6, AHEAD, "at a full log", |t| t.a().role == Primary && t.is_full()),
+    (6, AHEAD, "at a full log", |t| t.a().role == Primary && t.was_full()),
     (6, AHEAD, "with the last l", |t| {
-        t.a().role == Primary && !t.is_full() && t.client().l == LAST
+        t.a().role == Primary && !t.was_full() && t.client().l == LAST
     }),
     (6, AHEAD, "within 600 of the cluster time", |t| {
         t.client().p.saturating_sub(t.cluster().p) <= AHEAD_MAX
@@ -134,10 +134,6 @@ impl Taken<'_> {
 
     fn is_seen_elsewhere(&self) -> bool {
         self.is_after() && self.others().any(|b| b.cluster_time == self.client())
-    }
-
-    fn is_full(&self) -> bool {
-        self.a().log.length == ENTRIES
     }
 
     fn tick_from(&self, time: Time) -> Option<Time> {
