@@ -8,7 +8,7 @@ use Rattle.base.specs.Numbers.{every, count}
 use Rattle.base.specs.Lists.{eachFrom}
 use Rattle.clock.specs.Times.{zeroTime, isBefore, sameTime}
 use Rattle.log.specs.Entries.{sameEntry, entryAt}
-use Rattle.log.specs.Order.{entryOk, follows, placeOk, inOrder, restZero, logOk}
+use Rattle.log.specs.Order.{entryOk, follows, placeOk, inOrder, restZero, isEmptyLog, logOk}
 use Rattle.mail.specs.Reports.{zeroNote, noteOf}
 use Rattle.mail.specs.Mails.{zeroMail, noteAt, withSource}
 use Rattle.mail.specs.Order.{isUnused, isUsed, noteOk, notesOk, slotOk, queueOk, sourceOk, mailOk}
@@ -100,7 +100,7 @@ unfolding every isBefore sameTime sameEntry entryAt inOrder restZero logOk numbe
 counted-wants-at-most-the-last-time = refl
 
 pub zero-without-the-time : zeroOk (server 0 false 0 0 (at 0 1) []) ≡ false
-unfolding every sameTime sameEntry restZero zeroOk
+unfolding every sameTime sameEntry restZero isEmptyLog zeroOk
 zero-without-the-time = refl
 
 pub server-ok-exchanges-the-cases : serverOk 2 0 freshServer ≡ true
@@ -108,7 +108,7 @@ unfolding every isBefore sameTime sameEntry entryAt inOrder restZero logOk isUnu
 server-ok-exchanges-the-cases = refl
 
 pub server-ok-counts-every-server : serverOk 2 2 freshServer ≡ false
-unfolding every sameTime sameEntry restZero zeroOk serverOk
+unfolding every sameTime sameEntry restZero isEmptyLog zeroOk serverOk
 server-ok-counts-every-server = refl
 
 pub server-ok-without-its-mail : serverOk 2 0 (withMail freshServer (withSource zeroMail 1)) ≡ false
@@ -120,7 +120,7 @@ unfolding wellFormed
 well-formed-of-count-8 = refl
 
 pub well-formed-by-counted-servers : wellFormed (withServer F2 2 freshServer) ≡ false
-unfolding every eachFrom isBefore sameTime sameEntry entryAt inOrder restZero logOk isUnused isUsed noteOk notesOk slotOk queueOk sourceOk mailOk startedOf numbersOk countedOk zeroOk serverOk wellFormed
+unfolding every eachFrom isBefore sameTime sameEntry entryAt inOrder restZero isEmptyLog logOk isUnused isUsed noteOk notesOk slotOk queueOk sourceOk mailOk startedOf numbersOk countedOk zeroOk serverOk wellFormed
 well-formed-by-counted-servers = refl
 
 pub member-from-the-top : member 1 0 ≡ true

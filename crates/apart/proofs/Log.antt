@@ -2,21 +2,21 @@
 use mathlib.Core.Path.{_≡_, refl}
 use mathlib.Core.Bool.{true, false}
 use mathlib.Core.List.{List, [], _∷_, _++_}
-use Prim.Native.Nat.{ℕ, zero, suc}
+use Prim.Native.Nat.{ℕ, zero, suc, _-_}
 use lib.ListN.{take, replicate}
 use Rattle.base.specs.Numbers.{every, highest}
 use Rattle.clock.specs.Times.{isBefore, sameTime}
 use Rattle.log.specs.declared.Entry.{Entry}
 use Rattle.log.specs.declared.Log.{Log}
 use Rattle.log.specs.Entries.{zeroEntry, sameEntry, entryAt, lastTerm, appliedTime, equalAt, hasEntry, commonBeginning, isBeginning, latestValue}
-use Rattle.log.specs.Logs.{mayAsk, emptyLog, live, lengthOf, appended, joined}
-use Rattle.log.specs.Order.{entryOk, follows, placeOk, inOrder, restZero, logOk}
+use Rattle.log.specs.Logs.{logLimit, highestPosition, mayAsk, emptyLog, live, lengthOf, hasRoom, appended, joined}
+use Rattle.log.specs.Order.{entryOk, follows, placeOk, inOrder, restZero, isEmptyLog, logOk}
 use Rattle.apart.proofs.Things.{at, entry, x, y, z, u, log}
 
 pub zero-entry-of-value-1 : zeroEntry .value ≡ 0
 zero-entry-of-value-1 = refl
 
-pub empty-log-of-length-1 : emptyLog .len ≡ 0
+pub empty-log-of-length-1 : lengthOf emptyLog ≡ 0
 empty-log-of-length-1 = refl
 
 pub compares-only-terms : sameEntry x y ≡ false
@@ -27,17 +27,21 @@ pub same-leaves-out-the-time : sameEntry x (entry 1 5 41 (at 1 1)) ≡ false
 unfolding sameTime sameEntry
 same-leaves-out-the-time = refl
 
-pub length-as-it-stands : lengthOf (record { entries = replicate 32 zeroEntry; len = 33 }) ≡ 32
+pub length-as-it-stands : lengthOf (record { entries = replicate logLimit zeroEntry; len = suc logLimit }) ≡ logLimit
 length-as-it-stands = refl
 
-pub length-is-32 : lengthOf emptyLog ≡ 0
-length-is-32 = refl
+pub length-is-the-limit : lengthOf emptyLog ≡ 0
+length-is-the-limit = refl
 
 pub entry-counts-from-0 : entryAt (live (log (x ∷ []))) 1 ≡ x
 unfolding entryAt
 entry-counts-from-0 = refl
 
-pub entry-past-the-length : entryAt (live (record { entries = x ∷ replicate 31 zeroEntry; len = 0 })) 1 ≡ zeroEntry
+-- a log that claims this length, with x in its first slot and no other
+abbrev claimed : ℕ → Log
+claimed n = record { entries = x ∷ replicate (logLimit - 1) zeroEntry; len = n }
+
+pub entry-past-the-length : entryAt (live (claimed 0)) 1 ≡ zeroEntry
 unfolding entryAt
 entry-past-the-length = refl
 
@@ -73,9 +77,9 @@ pub has-entry-past-the-length : hasEntry (live emptyLog) 1 0 ≡ false
 unfolding hasEntry
 has-entry-past-the-length = refl
 
-pub may-ask-at-33 : mayAsk 33 1 ≡ false
+pub may-ask-past-the-highest : mayAsk (suc highestPosition) 1 ≡ false
 unfolding mayAsk
-may-ask-at-33 = refl
+may-ask-past-the-highest = refl
 
 pub may-ask-in-term-0 : mayAsk 1 0 ≡ false
 unfolding mayAsk
@@ -93,18 +97,26 @@ pub beginning-wants-equal-logs : isBeginning (live emptyLog) (live (log (x ∷ [
 unfolding commonBeginning
 beginning-wants-equal-logs = refl
 
-pub append-over-the-last-slot : appended (log (replicate 32 x)) y ≡ log (replicate 32 x)
-unfolding appended
+pub room-in-a-full-log : hasRoom (log (replicate logLimit x)) ≡ false
+unfolding hasRoom
+room-in-a-full-log = refl
+
+pub room-but-for-the-last-slot : hasRoom (log (replicate (logLimit - 1) x)) ≡ true
+unfolding hasRoom
+room-but-for-the-last-slot = refl
+
+pub append-over-the-last-slot : appended (log (replicate logLimit x)) y ≡ log (replicate logLimit x)
+unfolding hasRoom appended
 append-over-the-last-slot = refl
 
-pub append-leaves-the-length : appended emptyLog x .len ≡ 1
-unfolding appended
+pub append-leaves-the-length : lengthOf (appended emptyLog x) ≡ 1
+unfolding hasRoom appended
 append-leaves-the-length = refl
 
 pub join-gives-b : joined (log (x ∷ [])) (log (y ∷ z ∷ [])) 1 ≡ log (x ∷ z ∷ [])
 join-gives-b = refl
 
-pub join-keeps-the-length : joined (log (x ∷ [])) (log (y ∷ z ∷ [])) 1 .len ≡ 2
+pub join-keeps-the-length : lengthOf (joined (log (x ∷ [])) (log (y ∷ z ∷ [])) 1) ≡ 2
 join-keeps-the-length = refl
 
 pub value-past-n : latestValue 5 (take 1 (live (log (x ∷ z ∷ [])))) ≡ 41
@@ -120,7 +132,7 @@ unfolding highest entryAt latestValue
 reads-give-the-oldest = refl
 
 -- a length that is claimed beyond the slots, and a position past the end
-pub reads-end-where-the-log-does : latestValue 5 (take 10000 (live (record { entries = x ∷ replicate 31 zeroEntry; len = 10000 }))) ≡ 41
+pub reads-end-where-the-log-does : latestValue 5 (take 10000 (live (claimed 10000))) ≡ 41
 unfolding highest entryAt latestValue
 reads-end-where-the-log-does = refl
 
@@ -157,11 +169,11 @@ pub in-order-by-the-first-alone : inOrder 2 (live (log (entry 2 5 1 (at 1 0) ∷
 unfolding every isBefore entryAt entryOk follows placeOk inOrder
 in-order-by-the-first-alone = refl
 
--- the empty log with value 1 in slot 32
+-- the empty log with value 1 in its last slot
 abbrev dirty : Log
-dirty = record { entries = replicate 31 zeroEntry ++ (entry 0 0 1 (at 0 0) ∷ []); len = 0 }
+dirty = record { entries = replicate (logLimit - 1) zeroEntry ++ (entry 0 0 1 (at 0 0) ∷ []); len = 0 }
 
-pub uses-a-slot-past-the-length : restZero (record { entries = x ∷ replicate 31 zeroEntry; len = 0 }) 0 ≡ false
+pub uses-a-slot-past-the-length : restZero (claimed 0) 0 ≡ false
 unfolding every sameTime sameEntry restZero
 uses-a-slot-past-the-length = refl
 
@@ -169,17 +181,25 @@ pub rest-by-terms-alone : restZero dirty 0 ≡ false
 unfolding every sameTime sameEntry restZero
 rest-by-terms-alone = refl
 
+pub empty-by-its-length-alone : isEmptyLog dirty ≡ false
+unfolding every sameTime sameEntry restZero isEmptyLog
+empty-by-its-length-alone = refl
+
+pub empty-by-its-slots-alone : isEmptyLog (record { entries = replicate logLimit zeroEntry; len = 1 }) ≡ false
+unfolding isEmptyLog
+empty-by-its-slots-alone = refl
+
 -- k good entries, at the times from (n,0)
 abbrev good : ℕ → ℕ → List Entry
 good n zero = []
 good n (suc k) = entry 1 5 41 (at n 0) ∷ good (suc n) k
 
-pub log-ok-without-the-length : logOk 1 (record { entries = good 1 32; len = 33 }) ≡ false
+pub log-ok-without-the-length : logOk 1 (record { entries = good 1 logLimit; len = suc logLimit }) ≡ false
 unfolding logOk
 log-ok-without-the-length = refl
 
 -- all else about that log is good
-pub log-ok-but-for-the-length : logOk 1 (record { entries = good 1 32; len = 32 }) ≡ true
+pub log-ok-but-for-the-length : logOk 1 (record { entries = good 1 logLimit; len = logLimit }) ≡ true
 unfolding every isBefore sameTime sameEntry entryAt entryOk follows placeOk inOrder restZero logOk
 log-ok-but-for-the-length = refl
 

@@ -2,9 +2,11 @@
 use mathlib.Core.Path.{_≡_, refl}
 use mathlib.Core.Bool.{true, false}
 use mathlib.Core.List.{[], _∷_, _++_}
+use Prim.Native.Nat.{suc}
 use lib.ListN.{replicate}
 use Rattle.base.specs.Numbers.{every}
 use Rattle.base.specs.Lists.{eachFrom}
+use Rattle.log.specs.Logs.{highestPosition}
 use Rattle.mail.specs.declared.Queue.{Queue}
 use Rattle.mail.specs.Reports.{zeroReport, zeroNote, noteOf, givesWay}
 use Rattle.mail.specs.Queues.{emptyQueue, reportAt, queued, oldestTaken}
@@ -106,14 +108,14 @@ pub used-at-the-count : isUsed 1 1 (note 1 1 1) ≡ false
 unfolding isUsed
 used-at-the-count = refl
 
-pub used-note-of-length-33 : isUsed 2 0 (note 1 1 33) ≡ false
+pub used-note-past-the-highest : isUsed 2 0 (note 1 1 (suc highestPosition)) ≡ false
 unfolding isUsed
-used-note-of-length-33 = refl
+used-note-past-the-highest = refl
 
 -- all else about that note is good
-pub used-note-of-length-32 : isUsed 2 0 (note 1 1 32) ≡ true
+pub used-note-at-the-highest : isUsed 2 0 (note 1 1 highestPosition) ≡ true
 unfolding isUsed
-used-note-of-length-32 = refl
+used-note-at-the-highest = refl
 
 pub last-term-above-the-term : isUsed 2 0 (note 1 2 1) ≡ false
 unfolding isUsed

@@ -8,7 +8,7 @@ use Rattle.base.specs.Numbers.{every, count}
 use Rattle.base.specs.Lists.{eachFrom}
 use Rattle.clock.specs.Times.{isBefore, sameTime, laterOf}
 use Rattle.log.specs.Entries.{sameEntry, entryAt}
-use Rattle.log.specs.Order.{inOrder, restZero, logOk}
+use Rattle.log.specs.Order.{inOrder, restZero, isEmptyLog, logOk}
 use Rattle.cluster.specs.Servers.{freshServer, zeroCluster, serverAt}
 use Rattle.mail.specs.Order.{isUnused, isUsed, noteOk, notesOk, slotOk, queueOk, sourceOk, mailOk}
 use Rattle.cluster.specs.WellFormed.{numbersOk, countedOk, zeroOk, serverOk, wellFormed}
@@ -85,7 +85,7 @@ plan-lets-a-start-look = refl
 pub the-wrong-server-is-replaced :
     serverAt (fedOf (record { cluster = two freshServer (holder 1 []); reader = reader (writeStep (Hears 0 1)) 26 false }) (10 ∷ []) 19 .session .cluster) 0 .head .term
     ≡ 1
-unfolding every count eachFrom isBefore sameTime laterOf sameEntry entryAt inOrder restZero logOk isUnused isUsed noteOk notesOk slotOk queueOk sourceOk mailOk numbersOk countedOk zeroOk serverOk wellFormed digitOf charOf byteOf allHex highOf lowOf wordOf framed bytesOfFrame frameOf stepOfFrame isClean stepIn heardOf delivered rowOf coreOf stepOf respond answerTo lineOf lineHeld byteAfter after said fedOf
+unfolding every count eachFrom isBefore sameTime laterOf sameEntry entryAt inOrder restZero isEmptyLog logOk isUnused isUsed noteOk notesOk slotOk queueOk sourceOk mailOk numbersOk countedOk zeroOk serverOk wellFormed digitOf charOf byteOf allHex highOf lowOf wordOf framed bytesOfFrame frameOf stepOfFrame isClean stepIn heardOf delivered rowOf coreOf stepOf respond answerTo lineOf lineHeld byteAfter after said fedOf
 the-wrong-server-is-replaced = refl
 
 pub rest-without-line-feed-is-dropped : isEmpty (pushOf freshReader 48) ≡ false

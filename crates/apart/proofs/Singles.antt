@@ -6,7 +6,7 @@ use lib.ListN.{replicate}
 use Rattle.clock.specs.declared.Time.{Time}
 use Rattle.clock.specs.Times.{isBefore, laterOf, tickOf}
 use Rattle.log.specs.Entries.{entryAt}
-use Rattle.log.specs.Logs.{live, appended}
+use Rattle.log.specs.Logs.{logLimit, live, hasRoom, appended}
 use Rattle.mail.specs.declared.Report.{Report}
 use Rattle.mail.specs.Reports.{zeroNote, noteOf, givesWay}
 use Rattle.mail.specs.Queues.{oldestTaken}
@@ -51,7 +51,8 @@ restarts-with-its-source = refl
 pub restarts-with-its-notes : noteAt (restartsOf (withMail freshServer (noting (noteOf f ∷ []))) .server .mail) 0 ≡ zeroNote
 restarts-with-its-notes = refl
 
-pub writes-into-a-full-log : writesOf (leader (replicate 32 x)) 5 42 (at 0 0) .answer ≡ Refused LogFull
+pub writes-into-a-full-log : writesOf (leader (replicate logLimit x)) 5 42 (at 0 0) .answer ≡ Refused LogFull
+unfolding hasRoom
 writes-into-a-full-log = refl
 
 pub writes-key-sixteen : writesOf (leader []) 16 1 (at 0 0) .answer ≡ Refused OutOfRange
@@ -65,19 +66,19 @@ abbrev written : Server → Time → Stepped
 written s client = writesOf s 5 41 client
 
 pub the-clients-time-is-ignored : written (leader []) (at 9 0) .answer ≡ Entry 1 1 (at 9 1)
-unfolding isBefore laterOf tickOf appended
+unfolding isBefore laterOf tickOf hasRoom appended
 the-clients-time-is-ignored = refl
 
 pub an-earlier-clients-time-is-taken : written (server 1 true 0 1 (at 9 0) []) (at 3 0) .answer ≡ Entry 1 1 (at 9 1)
-unfolding isBefore laterOf tickOf appended
+unfolding isBefore laterOf tickOf hasRoom appended
 an-earlier-clients-time-is-taken = refl
 
 pub six-hundred-ahead-is-refused : written (leader []) (at 601 0) .answer ≡ Entry 1 1 (at 601 1)
-unfolding isBefore laterOf tickOf appended
+unfolding isBefore laterOf tickOf hasRoom appended
 six-hundred-ahead-is-refused = refl
 
 pub the-bound-wraps : written (server 1 true 0 65000 (at 0 0) []) (at 65535 0) .answer ≡ Entry 1 1 (at 65535 1)
-unfolding isBefore laterOf tickOf appended
+unfolding isBefore laterOf tickOf hasRoom appended
 the-bound-wraps = refl
 
 pub role-before-the-clock : written freshServer (at 602 0) .answer ≡ Refused ClockAhead
@@ -87,11 +88,11 @@ pub a-refused-write-takes-the-time : written freshServer (at 9 0) .server .head 
 a-refused-write-takes-the-time = refl
 
 pub the-wall-clock-moves : written (leader []) (at 9 0) .server .head .wall ≡ 1
-unfolding isBefore laterOf tickOf stampedOf
+unfolding isBefore laterOf tickOf hasRoom stampedOf
 the-wall-clock-moves = refl
 
 pub stamped-with-the-old-time : entryAt (live (stampDone (timed (at 1 0)) 5 41 (at 2 0) .server .log)) 1 .time ≡ at 2 0
-unfolding entryAt appended stampedOf
+unfolding entryAt hasRoom appended stampedOf
 stamped-with-the-old-time = refl
 
 pub stamped-leaves-the-time : stampDone (timed (at 1 0)) 5 41 (at 2 0) .server .head .time ≡ at 2 0
@@ -99,19 +100,19 @@ unfolding stampedOf
 stamped-leaves-the-time = refl
 
 pub nothing-without-a-tick : appendsOf (leader []) 255 0 (at 0 0) .server .head .time ≡ at 1 0
-unfolding isBefore tickOf stampedOf
+unfolding isBefore tickOf hasRoom stampedOf
 nothing-without-a-tick = refl
 
 pub nothing-from-the-last-entrys-time : writesNothingOf (server 1 true 0 1 (at 9 0) (x ∷ [])) .answer ≡ Entry 2 1 (at 9 1)
-unfolding tickOf appended
+unfolding tickOf hasRoom appended
 nothing-from-the-last-entrys-time = refl
 
 pub nothing-under-key-0 : entryAt (live (writesNothingOf (leader []) .server .log)) 1 .key ≡ 255
-unfolding entryAt appended stampedOf tickOf
+unfolding entryAt hasRoom appended stampedOf tickOf
 nothing-under-key-0 = refl
 
 pub nothing-with-value-1 : entryAt (live (writesNothingOf (leader []) .server .log)) 1 .value ≡ 0
-unfolding entryAt appended stampedOf tickOf
+unfolding entryAt hasRoom appended stampedOf tickOf
 nothing-with-value-1 = refl
 
 -- this server with one report in its queue, and server 1 for its source

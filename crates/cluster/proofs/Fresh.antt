@@ -5,7 +5,7 @@ use mathlib.Core.Bool.{true, false}
 use mathlib.Core.List.{[]}
 use Prim.Native.Nat.{ℕ, _<_, _≤_}
 use native.Mathlib.Omega.{arith}
-use lib.ListN.{getD-replicate}
+use lib.ListN.{length-replicate, getD-replicate}
 use borrow.Author.Tests.{lt-ltb, le-ltb}
 use Rattle.base.proofs.Bools.{not-both}
 use Rattle.base.proofs.Each.{length-eachFrom}
@@ -76,7 +76,7 @@ fits-zero-time = omega arith
 fits-empty : FitsLog emptyLog
 fits-empty =
     record {
-      slots = refl;
+      slots = length-replicate logLimit zeroEntry;
       len = omega arith;
       each = λ i h. rw (getD-replicate logLimit i zeroEntry zeroEntry h) (record { term = omega arith; key = omega arith; value = omega arith; time = fits-zero-time });
     }

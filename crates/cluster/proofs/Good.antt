@@ -1,12 +1,11 @@
 -- A well-formed record as facts: one field for each clause of 01, and back. Assumes nothing.
-use mathlib.Core.Path.{_≡_, refl, ap, sym, _∙_}
+use mathlib.Core.Path.{_≡_, refl, ap, _∙_}
 use mathlib.Core.Bool.{Bool, true, false, cond, not, _&&_}
 use mathlib.Core.Logic.{⊎-elim}
 use Prim.Native.Nat.{ℕ, _<_, _≤_}
 use native.Mathlib.Omega.{arith}
 use lib.Dec.{eqb, leb}
-use lib.ListN.{length, replicate, getD-replicate}
-use lib.Seq.{ext-getD}
+use lib.ListN.{length}
 use borrow.Author.Tests.{leb-true, le-leb, eqb-true, lt-ltb, le-ltb, not-true}
 use Rattle.base.specs.Numbers.{every}
 use Rattle.base.proofs.Bools.{and-both, and-left, and-right}
@@ -14,12 +13,10 @@ use Rattle.base.proofs.Every.{every-at, every-all}
 use Rattle.base.proofs.Facts.{lt-or-le}
 use Rattle.clock.specs.Times.{zeroTime, isBefore}
 use Rattle.clock.proofs.Order.{sameTime-eq, sameTime-refl}
-use Rattle.log.specs.declared.Log.{Log}
-use Rattle.log.specs.Entries.{zeroEntry, appliedTime}
-use Rattle.log.specs.Logs.{logLimit, live, emptyLog}
-use Rattle.log.specs.Order.{restZero, logOk}
-use Rattle.log.proofs.Orderly.{LogGood, log-good, good-log, rest-is, is-rest}
-use Rattle.log.proofs.Tidy.{tidy-empty}
+use Rattle.log.specs.Entries.{appliedTime}
+use Rattle.log.specs.Logs.{logLimit, live, lengthOf}
+use Rattle.log.specs.Order.{isEmptyLog, logOk}
+use Rattle.log.proofs.Orderly.{LogGood, log-good, good-log, empty-log-is, is-empty-log}
 use Rattle.mail.specs.Mails.{zeroMail}
 use Rattle.mail.specs.Order.{mailOk}
 use Rattle.mail.proofs.Good.{MailGood, mail-good, good-mail}
@@ -33,10 +30,10 @@ use Rattle.cluster.specs.Ranges.{FitsServer, Fits}
 -- ---- a counted server
 
 pub record ServerGood (s : Server) : Type 0 where
-  -- its length is at most 32, slots past it are zero, its entries' terms, keys, values and times are in order and range
+  -- it keeps at most as many entries as a log may, slots past them are zero, its entries' terms, keys, values and times are in order and range
   pub log : LogGood (s .head .term) (s .log)
   pub last-time : isBefore (s .head .time) (appliedTime (live (s .log))) ≡ false
-  pub commit-point : s .head .commit ≤ s .log .len
+  pub commit-point : s .head .commit ≤ lengthOf (s .log)
   pub wall-clock : 1 ≤ s .head .wall
   pub primary-term : s .head .primary ≡ true → 1 ≤ s .head .term
 
@@ -48,11 +45,11 @@ unfolding countedOk numbersOk
 server-good s slots h =
     let h2 = and-right (logOk (s .head .term) (s .log)) _ h in
     let n = and-right (not (isBefore (s .head .time) (appliedTime (live (s .log))))) _ h2 in
-    let n2 = and-right (leb (s .head .commit) (s .log .len)) _ n in
+    let n2 = and-right (leb (s .head .commit) (lengthOf (s .log))) _ n in
     record {
       log = log-good slots (and-left _ _ h);
       last-time = not-true _ (and-left _ _ h2);
-      commit-point = leb-true (s .head .commit) (s .log .len) (and-left _ _ n);
+      commit-point = leb-true (s .head .commit) (lengthOf (s .log)) (and-left _ _ n);
       wall-clock = leb-true 1 (s .head .wall) (and-left _ _ n2);
       primary-term = λ p. leb-true 1 (s .head .term) (rw p at (and-right (leb 1 (s .head .wall)) _ n2));
     }
@@ -62,7 +59,7 @@ unfolding countedOk numbersOk
 good-server s g =
     and-both _ _ (good-log (g .log))
     (and-both _ _ (not-is-true _ (g .last-time))
-    (and-both _ _ (le-leb (s .head .commit) (s .log .len) (g .commit-point))
+    (and-both _ _ (le-leb (s .head .commit) (lengthOf (s .log)) (g .commit-point))
     (and-both _ _ (le-leb 1 (s .head .wall) (g .wall-clock)) (role (s .head .primary) refl))))
   where
     role : (b : Bool) → s .head .primary ≡ b → cond b (leb 1 (s .head .term)) true ≡ true
@@ -71,32 +68,24 @@ good-server s g =
 
 -- ---- a server past the count
 
-empty-log-is : (g : Log) → length (g .entries) ≡ logLimit → g .len ≡ 0 → restZero g 0 ≡ true → g ≡ emptyLog
-empty-log-is g slots z r =
-    let e : g .entries ≡ replicate logLimit zeroEntry =
-    ext-getD zeroEntry (g .entries) (replicate logLimit zeroEntry) slots
-    (λ i h. rest-is g 0 slots r i (omega arith) ∙ sym (getD-replicate logLimit i zeroEntry zeroEntry (omega (arith, slots)))) in
-    λ i. record { entries = e i; len = z i }
-
 pub zero-is : (s : Server) → length (s .log .entries) ≡ logLimit → zeroOk s ≡ true → s .mail ≡ zeroMail → s ≡ zeroServer
 unfolding zeroOk
 zero-is s slots h told =
-    let h2 = and-right (eqb (s .log .len) 0) _ h in
-    let h3 = and-right (restZero (s .log) 0) _ h2 in
-    let h4 = and-right (eqb (s .head .term) 0) _ h3 in
-    let h5 = and-right (not (s .head .primary)) _ h4 in
-    let h6 = and-right (eqb (s .head .commit) 0) _ h5 in
-    let l = empty-log-is (s .log) slots (eqb-true (s .log .len) 0 (and-left _ _ h)) (and-left _ _ h2) in
-    let t = eqb-true (s .head .term) 0 (and-left _ _ h3) in
-    let p = not-true (s .head .primary) (and-left _ _ h4) in
-    let k = eqb-true (s .head .commit) 0 (and-left _ _ h5) in
-    let w = eqb-true (s .head .wall) 0 (and-left _ _ h6) in
-    let m = sameTime-eq (s .head .time) zeroTime (and-right (eqb (s .head .wall) 0) _ h6) in
+    let h2 = and-right (isEmptyLog (s .log)) _ h in
+    let h3 = and-right (eqb (s .head .term) 0) _ h2 in
+    let h4 = and-right (not (s .head .primary)) _ h3 in
+    let h5 = and-right (eqb (s .head .commit) 0) _ h4 in
+    let l = empty-log-is (s .log) slots (and-left _ _ h) in
+    let t = eqb-true (s .head .term) 0 (and-left _ _ h2) in
+    let p = not-true (s .head .primary) (and-left _ _ h3) in
+    let k = eqb-true (s .head .commit) 0 (and-left _ _ h4) in
+    let w = eqb-true (s .head .wall) 0 (and-left _ _ h5) in
+    let m = sameTime-eq (s .head .time) zeroTime (and-right (eqb (s .head .wall) 0) _ h5) in
     λ i. record { head = record { term = t i; primary = p i; commit = k i; wall = w i; time = m i }; log = l i; mail = told i }
 
 pub is-zero : (s : Server) → s ≡ zeroServer → zeroOk s ≡ true
 unfolding zeroOk
-is-zero s e = ap zeroOk e ∙ rw (is-rest emptyLog 0 (λ i h. tidy-empty .rest i h), sameTime-refl zeroTime)
+is-zero s e = ap zeroOk e ∙ rw (is-empty-log, sameTime-refl zeroTime)
 
 past-good : (i : ℕ) (s : Server) → FitsServer s → (zeroOk s && mailOk 0 i (s .mail)) ≡ true → s ≡ zeroServer
 past-good i s f h = zero-is s (f .log .slots) (and-left _ _ h) (zero-mail-is i (f .mail) (and-right (zeroOk s) _ h))

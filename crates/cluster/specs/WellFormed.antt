@@ -5,8 +5,8 @@ use lib.Dec.{eqb, ltb, leb}
 use Rattle.base.specs.Numbers.{every}
 use Rattle.clock.specs.Times.{zeroTime, isBefore, sameTime}
 use Rattle.log.specs.Entries.{appliedTime}
-use Rattle.log.specs.Logs.{live}
-use Rattle.log.specs.Order.{restZero, logOk}
+use Rattle.log.specs.Logs.{live, lengthOf}
+use Rattle.log.specs.Order.{isEmptyLog, logOk}
 use Rattle.mail.specs.Order.{mailOk}
 use Rattle.cluster.specs.declared.Server.{Server}
 use Rattle.cluster.specs.declared.Cluster.{Cluster}
@@ -14,7 +14,7 @@ use Rattle.cluster.specs.Servers.{fewestServers, mostServers, serverAt}
 
 -- the commit point is not above the length; a counted server's wall clock is at least 1; a primary's term is at least 1
 unfoldable pub numbersOk : Server → Bool
-numbersOk s = leb (s .head .commit) (s .log .len) && (leb 1 (s .head .wall) && cond (s .head .primary) (leb 1 (s .head .term)) true)
+numbersOk s = leb (s .head .commit) (lengthOf (s .log)) && (leb 1 (s .head .wall) && cond (s .head .primary) (leb 1 (s .head .term)) true)
 
 -- a counted server: its log is in order, and the last time is not above its cluster time
 unfoldable pub countedOk : Server → Bool
@@ -24,9 +24,8 @@ countedOk s =
 -- a server past the count: zero, secondary; its mail is looked at apart
 unfoldable pub zeroOk : Server → Bool
 zeroOk s =
-    eqb (s .log .len) 0
-    && (restZero (s .log) 0
-    && (eqb (s .head .term) 0 && (not (s .head .primary) && (eqb (s .head .commit) 0 && (eqb (s .head .wall) 0 && sameTime (s .head .time) zeroTime)))))
+    isEmptyLog (s .log)
+    && (eqb (s .head .term) 0 && (not (s .head .primary) && (eqb (s .head .commit) 0 && (eqb (s .head .wall) 0 && sameTime (s .head .time) zeroTime))))
 
 -- server i, where so many are counted: past the count, where nobody is, its mail is all zero too
 unfoldable pub serverOk : ℕ → ℕ → Server → Bool

@@ -210,7 +210,7 @@ pub fn set_clocks(c: Cluster, wall: u16) -> Cluster
 pub fn numbers_ok(s: Server) -> bool
     ensures { λ r. ⌜ r ≡ numbersOk s ⌝ }
 {
-    if s.log.len < s.head.commit {
+    if log::length_of(s.log) < s.head.commit {
         return false;
     }
     if s.head.wall < 1 {
@@ -244,10 +244,7 @@ pub fn zero_ok(s: Server) -> bool
     ensures { λ r. ⌜ r ≡ zeroOk s ⌝ }
 {
     let g = s.log;
-    if g.len != 0 {
-        return false;
-    }
-    if !log::rest_zero(g, 0) {
+    if !log::is_empty_log(g) {
         return false;
     }
     if s.head.term != 0 {

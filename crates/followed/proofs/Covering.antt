@@ -8,12 +8,13 @@ use native.Mathlib.Numerals.{add-one}
 use native.Mathlib.Omega.{arith}
 use borrow.Author.Tests.{lt-ltb, le-ltb}
 use lib.Dec.{ltb}
-use lib.ListN.{length, take, length-take}
-use lib.Seq.{take-all, take-length, take-take}
+use lib.ListN.{length, take}
+use lib.Seq.{take-all, take-length}
 use Rattle.base.proofs.Facts.{lt-or-le}
 use Rattle.log.specs.declared.Entry.{Entry}
 use Rattle.log.specs.declared.Log.{Log}
 use Rattle.log.specs.Logs.{live, lengthOf}
+use Rattle.log.proofs.Live.{first-slots}
 use Rattle.cluster.specs.declared.Server.{Server}
 use Rattle.cluster.specs.declared.Cluster.{Cluster}
 use Rattle.cluster.specs.Servers.{serverCount, serverAt}
@@ -35,8 +36,7 @@ take-min k xs = ⊎-elim below above (lt-or-le k (length xs))
 
 pub cut-live : (s : Server) → live (cutLog s) ≡ covered s
 cut-live s =
-    let n = min (s .head .commit) (lengthOf (s .log)) in
-    sym (take-take n (s .log .len) (s .log .entries) (omega (arith, length-take (s .log .len) (s .log .entries)))) ∙ take-min (s .head .commit) (live (s .log))
+    first-slots (s .log) (min (s .head .commit) (lengthOf (s .log))) (omega arith) ∙ take-min (s .head .commit) (live (s .log))
 
 longer-live : (g h : Log) → live (longerLog g h) ≡ longer (live g) (live h)
 unfolding longerLog

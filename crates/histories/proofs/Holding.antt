@@ -1,7 +1,7 @@
 -- The logs that refusal 2 lets through are just those that some well-formed record could hold. Assumes nothing.
 use mathlib.Core.Path.{_≡_, refl, ap, sym, subst, _∙_}
 use mathlib.Core.List.{List}
-use mathlib.Core.Bool.{true, false}
+use mathlib.Core.Bool.{false}
 use mathlib.Core.Logic.{⊎-elim}
 use Prim.Native.Nat.{ℕ, suc, _<_, _≤_}
 use native.Mathlib.Omega.{arith}
@@ -17,7 +17,7 @@ use Rattle.log.specs.Logs.{logLimit, live}
 use Rattle.log.specs.Ranges.{FitsEntry}
 use Rattle.log.proofs.Live.{entryAt-slot}
 use Rattle.log.proofs.Orderly.{Orderly, orderly, in-order}
-use Rattle.log.proofs.Tidy.{logOf, tidy-logOf, tidy-length}
+use Rattle.log.proofs.Tidy.{logOf, tidy-logOf, tidy-highest}
 use Rattle.mail.specs.Mails.{zeroMail}
 use Rattle.mail.proofs.Kept.{zero-good}
 use Rattle.mail.proofs.Ranges.{fits-zero-mail}
@@ -25,11 +25,10 @@ use Rattle.cluster.specs.declared.Server.{Server}
 use Rattle.cluster.specs.declared.Cluster.{Cluster}
 use Rattle.cluster.specs.Servers.{fewestServers, mostServers, serverAt, freshCluster, withServer}
 use Rattle.cluster.specs.Ranges.{FitsServer, Fits}
-use Rattle.cluster.specs.WellFormed.{wellFormed}
 use Rattle.cluster.proofs.Changed.{replaced-here, replaced-others}
 use Rattle.cluster.proofs.Fresh.{good-fresh, fits-fresh}
 use Rattle.cluster.proofs.Good.{ServerGood, Good, good, well-formed}
-use Rattle.histories.specs.Committed.{Committed, entriesOf}
+use Rattle.histories.specs.Committed.{Committed, committedLimit, entriesOf}
 use Rattle.histories.proofs.Lent.{length-together}
 use Rattle.histories.specs.Obeying.{Together, LogFits, HeldBy}
 
@@ -42,14 +41,18 @@ holder es = record { head = record { term = limit; primary = false; commit = 0; 
 abbrev record-of : List Entry → Cluster
 record-of es = withServer (freshCluster fewestServers) 0 (holder es)
 
-module _ (es : List Entry) (short : length es ≤ logLimit) (order : Orderly limit es) (each-fits : (n : ℕ) → FitsEntry (entryAt es n)) where
+module _ (es : List Entry) (short : length es ≤ committedLimit) (order : Orderly limit es) (each-fits : (n : ℕ) → FitsEntry (entryAt es n)) where
+  -- one log keeps them all
+  room : length es ≤ logLimit
+  room = omega arith
+
   live-log : live (logOf es) ≡ es
   live-log = take-append-seam es _
 
   good-holder : ServerGood (holder es)
   good-holder =
       record {
-        log = record { tidy = tidy-logOf es short; order = rw live-log order };
+        log = record { tidy = tidy-logOf es room; order = rw live-log order };
         last-time = rw live-log (before-itself (appliedTime es));
         commit-point = omega arith;
         wall-clock = omega arith;
@@ -60,7 +63,7 @@ module _ (es : List Entry) (short : length es ≤ logLimit) (order : Orderly lim
   fits-holder =
       record {
         head = record { term = omega arith; commit = omega arith; wall = omega arith; time = each-fits (length es) .time };
-        log = record { slots = tidy-logOf es short .slots; len = omega arith; each = slot };
+        log = record { slots = tidy-logOf es room .slots; len = omega arith; each = slot };
         mail = fits-zero-mail;
       }
     where
@@ -68,7 +71,7 @@ module _ (es : List Entry) (short : length es ≤ logLimit) (order : Orderly lim
       slot i h =
           ⊎-elim
           (λ l. subst FitsEntry (ap (λ (xs : List Entry). entryAt xs (suc i)) (sym live-log) ∙ entryAt-slot (logOf es) i l) (each-fits (suc i)))
-          (λ l. rw (tidy-logOf es short .rest i l) (record { term = omega arith; key = omega arith; value = omega arith; time = record { p = omega arith; l = omega arith } }))
+          (λ l. rw (tidy-logOf es room .rest i l) (record { term = omega arith; key = omega arith; value = omega arith; time = record { p = omega arith; l = omega arith } }))
           (lt-or-le i (length es))
 
   at-first : serverAt (record-of es) 0 ≡ holder es
@@ -133,6 +136,6 @@ module _ (g : Committed) where
       let small : h .server < mostServers = omega (arith, h .counted, c .at-most-seven) in
       record {
         together = t;
-        short = omega (arith, length-together g t, ap length (h .same), tidy-length (s .log .tidy), s .log .tidy .short);
+        short = omega (arith, length-together g t, ap length (h .same), tidy-highest (s .log .tidy));
         order = in-order (subst (Orderly limit) (h .same) (orderly-up (h .fits .each (h .server) small .head .term) (s .log .order)));
       }

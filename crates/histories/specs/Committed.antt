@@ -6,12 +6,11 @@ use lib.Dec.{eqb, leb}
 use lib.ListN.{length}
 use Rattle.clock.specs.Times.{limit}
 use Rattle.log.specs.declared.Entry.{Entry}
-use Rattle.log.specs.Logs.{logLimit}
 use Rattle.log.specs.Order.{inOrder}
 
--- a committed log has at most as many entries as a log may have
+-- a whole committed log has at most 32 entries
 abbrev pub committedLimit : ℕ
-committedLimit = logLimit
+committedLimit = 32
 
 pub record Committed : Type 0 where
   pub terms : List ℕ

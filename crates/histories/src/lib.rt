@@ -30,10 +30,10 @@ pub enum Checked {
     Refused(Refusal),
 }
 
-// How many records a list can have, and how many entries a committed log.
+// How many records a list can have, and how many entries a whole committed log.
 pub const MOST_RECORDS: usize = 256;
 
-pub const COMMITTED_LIMIT: usize = log::LOG_LIMIT;
+pub const COMMITTED_LIMIT: usize = 32;
 
 // The kind of a write's record, and of a majority read's.
 pub const WRITE_KIND: u8 = 6;

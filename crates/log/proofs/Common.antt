@@ -16,7 +16,7 @@ use Rattle.log.specs.declared.Log.{Log}
 use Rattle.log.specs.Entries.{zeroEntry, sameEntry, entryAt, commonBeginning, isBeginning}
 use Rattle.log.specs.Logs.{live, joined}
 use Rattle.log.proofs.Equal.{sameEntry-eq, sameEntry-refl}
-use Rattle.log.proofs.Live.{entryAt-take}
+use Rattle.log.proofs.Live.{first-slots, entryAt-take}
 
 -- ---- a loop that compares from the front
 
@@ -164,7 +164,5 @@ pub rolled-is : (a b : Log) → joined a b (commonBeginning (live a) (live b)) �
 rolled-is a b =
     let k : ℕ = commonBeginning (live a) (live b) in
     let l = common-le (live a) (live b) in
-    let e : take k (a .entries) ≡ take k (b .entries) =
-    sym (take-take k (a .len) (a .entries) (omega (arith, length-take (a .len) (a .entries)))) ∙ common-agrees (live a) (live b)
-    ∙ take-take k (b .len) (b .entries) (omega (arith, length-take (b .len) (b .entries))) in
+    let e : take k (a .entries) ≡ take k (b .entries) = first-slots a k (l .0) ∙ common-agrees (live a) (live b) ∙ sym (first-slots b k (l .1)) in
     λ i. record { entries = joined-same k (a .entries) (b .entries) e i; len = b .len }

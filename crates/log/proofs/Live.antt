@@ -1,11 +1,11 @@
--- The entries that a log holds: how many, and which stands at a position. Assumes nothing.
+-- A log by positions: how many entries, and which stands at a position. Assumes nothing.
 use mathlib.Core.Path.{_≡_, refl, ap, sym, _∙_}
 use mathlib.Core.List.{List}
 use Prim.Native.Nat.{ℕ, zero, suc, _-_, _<_, _≤_, min}
 use native.Mathlib.Nat.{le-of-suc-le-suc}
 use native.Mathlib.Omega.{arith}
 use lib.ListN.{length, getD, take, length-take, List·getD-eq-default}
-use lib.Seq.{getD-take}
+use lib.Seq.{getD-take, take-take}
 use Rattle.log.specs.declared.Entry.{Entry}
 use Rattle.log.specs.declared.Log.{Log}
 use Rattle.log.specs.Entries.{zeroEntry, entryAt}
@@ -14,6 +14,10 @@ use Rattle.log.specs.Logs.{live, lengthOf}
 -- the length is the number of entries, cut at the slots
 pub length-live : (g : Log) (n : ℕ) → length (g .entries) ≡ n → lengthOf g ≡ min (g .len) n
 length-live g n h = omega (arith, length-take (g .len) (g .entries))
+
+-- and the first slots are the first entries, as far as there are any
+pub first-slots : (g : Log) (n : ℕ) → n ≤ lengthOf g → take n (g .entries) ≡ take n (live g)
+first-slots g n h = sym (take-take n (g .len) (g .entries) (omega (arith, length-take (g .len) (g .entries))))
 
 -- position 0 and positions past the end hold the zero entry
 pub entryAt-zero : (es : List Entry) (n : ℕ) → n ≡ 0 → zeroEntry ≡ entryAt es n

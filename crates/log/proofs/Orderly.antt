@@ -1,5 +1,5 @@
 -- A log that a well-formed record may hold, as facts: one for each clause of 01, and back. Assumes nothing.
-use mathlib.Core.Path.{_≡_, refl, ap, _∙_}
+use mathlib.Core.Path.{_≡_, refl, ap, sym, _∙_}
 use mathlib.Core.List.{List}
 use mathlib.Core.Bool.{true, false, _&&_, _||_}
 use mathlib.Core.Logic.{_⊎_, inl, inr, ⊎-elim}
@@ -7,8 +7,8 @@ use Prim.Native.Nat.{ℕ, zero, suc, _<_, _≤_}
 use native.Mathlib.Nat.{eq-or-lt-of-le, le-of-suc-le-suc}
 use native.Mathlib.Omega.{arith}
 use lib.Dec.{eqb, ltb, leb}
-use lib.ListN.{length, getD, take, List·getD-eq-default}
-use lib.Seq.{length-take-le}
+use lib.ListN.{length, getD, take, replicate, length-replicate, getD-replicate, List·getD-eq-default}
+use lib.Seq.{ext-getD, length-take-le}
 use borrow.Author.Tests.{leb-true, le-leb, eqb-true, eq-eqb, ltb-true, lt-ltb}
 use Rattle.base.proofs.Bools.{and-both, and-left, and-right, or-left, or-right, or-cases}
 use Rattle.base.proofs.Every.{every-at, every-all}
@@ -18,11 +18,11 @@ use Rattle.clock.proofs.Order.{before-itself, before-not-after, before-trans}
 use Rattle.log.specs.declared.Entry.{Entry}
 use Rattle.log.specs.declared.Log.{Log}
 use Rattle.log.specs.Entries.{zeroEntry, sameEntry, entryAt, appliedTime}
-use Rattle.log.specs.Logs.{logLimit, live}
-use Rattle.log.specs.Order.{highestKey, noKey, writesSome, entryOk, follows, placeOk, inOrder, restZero, logOk}
+use Rattle.log.specs.Logs.{logLimit, emptyLog, live}
+use Rattle.log.specs.Order.{highestKey, noKey, writesSome, entryOk, follows, placeOk, inOrder, restZero, isEmptyLog, logOk}
 use Rattle.log.proofs.Equal.{sameEntry-eq, sameEntry-refl}
 use Rattle.log.proofs.Live.{entryAt-take}
-use Rattle.log.proofs.Tidy.{Tidy}
+use Rattle.log.proofs.Tidy.{Tidy, tidy-empty}
 
 -- ---- one entry
 
@@ -142,6 +142,21 @@ unfolding restZero
 is-rest g k z =
     every-all _ logLimit
     (λ i l. ⊎-elim (λ m. or-left _ _ (lt-ltb i k m)) (λ m. or-right (ltb i k) _ (ap (λ (e : Entry). sameEntry e zeroEntry) (z i m) ∙ sameEntry-refl zeroEntry)) (lt-or-le i k))
+
+-- no entry and every slot zero is the empty log
+pub empty-log-is : (g : Log) → length (g .entries) ≡ logLimit → isEmptyLog g ≡ true → g ≡ emptyLog
+unfolding isEmptyLog
+empty-log-is g slots h =
+    let none = eqb-true (g .len) 0 (and-left _ _ h) in
+    let zero-from = rest-is g 0 slots (and-right (eqb (g .len) 0) _ h) in
+    let e : g .entries ≡ replicate logLimit zeroEntry =
+    ext-getD zeroEntry (g .entries) (replicate logLimit zeroEntry) (slots ∙ sym (length-replicate logLimit zeroEntry))
+    (λ i l. zero-from i (omega arith) ∙ sym (getD-replicate logLimit i zeroEntry zeroEntry (omega (arith, slots)))) in
+    λ i. record { entries = e i; len = none i }
+
+pub is-empty-log : isEmptyLog emptyLog ≡ true
+unfolding isEmptyLog
+is-empty-log = is-rest emptyLog 0 (tidy-empty .rest)
 
 -- ---- the whole log
 

@@ -13,7 +13,7 @@ use Rattle.base.proofs.Replaced.{all-set}
 use Rattle.log.specs.declared.Entry.{Entry}
 use Rattle.log.specs.declared.Log.{Log}
 use Rattle.log.specs.Entries.{zeroEntry, entryAt}
-use Rattle.log.specs.Logs.{logLimit, live, appended, joined}
+use Rattle.log.specs.Logs.{logLimit, live, lengthOf, hasRoom, appended, joined}
 use Rattle.log.specs.Ranges.{FitsEntry, FitsLog}
 use Rattle.log.proofs.Live.{entryAt-zero, entryAt-past, entryAt-slot}
 
@@ -34,7 +34,7 @@ fits-entry {g} f (suc i) = ⊎-elim here past (lt-or-le i (length (live g)))
         (f .each i (omega (arith, length-take (g .len) (g .entries), f .slots)))
 
 pub fits-appended : {g : Log} {e : Entry} → FitsLog g → FitsEntry e → FitsLog (appended g e)
-unfolding appended
+unfolding hasRoom appended
 fits-appended {g} {e} f new = go (ltb (g .len) logLimit) refl
   where
     go : (b : Bool) → ltb (g .len) logLimit ≡ b → FitsLog (cond b (record { entries = set (g .entries) (g .len) e; len = g .len + 1 }) g)
@@ -46,11 +46,14 @@ fits-appended {g} {e} f new = go (ltb (g .len) logLimit) refl
         }
     go false h = f
 
-pub fits-joined : {a b : Log} (k : ℕ) → FitsLog a → FitsLog b → k ≤ logLimit → FitsLog (joined a b k)
+pub fits-joined : {a b : Log} (k : ℕ) → FitsLog a → FitsLog b → k ≤ lengthOf a → FitsLog (joined a b k)
 fits-joined {a} {b} k fa fb h =
     record {
-      slots = length-joined k (a .entries) (b .entries) (omega (arith, fa .slots)) (omega (arith, fb .slots)) ∙ fb .slots;
+      slots = length-joined k (a .entries) (b .entries) within (omega (arith, within, fa .slots, fb .slots)) ∙ fb .slots;
       len = fb .len;
-      each = λ i l. ⊎-elim (λ m. rw (joined-low zeroEntry k (a .entries) (b .entries) (omega (arith, fa .slots)) i m) (fa .each i l))
-          (λ m. rw (joined-high zeroEntry k (a .entries) (b .entries) (omega (arith, fa .slots)) i m) (fb .each i l)) (lt-or-le i k);
+      each = λ i l. ⊎-elim (λ m. rw (joined-low zeroEntry k (a .entries) (b .entries) within i m) (fa .each i l))
+          (λ m. rw (joined-high zeroEntry k (a .entries) (b .entries) within i m) (fb .each i l)) (lt-or-le i k);
     }
+  where
+    within : k ≤ length (a .entries)
+    within = omega (arith, length-take (a .len) (a .entries))

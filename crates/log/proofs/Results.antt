@@ -5,8 +5,8 @@ use Rattle.base.proofs.Results.{OneResult, one-result}
 use Rattle.log.specs.declared.Entry.{Entry}
 use Rattle.log.specs.declared.Log.{Log}
 use Rattle.log.specs.Entries.{appliedTime, commonBeginning, entryAt, equalAt, hasEntry, isBeginning, lastTerm, latestValue, sameEntry, zeroEntry}
-use Rattle.log.specs.Logs.{appended, emptyLog, joined, lengthOf, live, mayAsk}
-use Rattle.log.specs.Order.{entryOk, inOrder, logOk, placeOk, restZero}
+use Rattle.log.specs.Logs.{appended, emptyLog, hasRoom, joined, kept, lengthOf, live, mayAsk}
+use Rattle.log.specs.Order.{entryOk, inOrder, isEmptyLog, logOk, placeOk, restZero}
 use Rattle.log.proofs.zero_entry.Reads as zero-entry-reads
 use Rattle.log.proofs.empty_log.Reads as empty-log-reads
 use Rattle.log.proofs.same_entry.Reads as same-entry-reads
@@ -20,6 +20,7 @@ use Rattle.log.proofs.has_entry.Reads as has-entry-reads
 use Rattle.log.proofs.may_ask.Reads as may-ask-reads
 use Rattle.log.proofs.common_beginning.Reads as common-beginning-reads
 use Rattle.log.proofs.is_beginning.Reads as is-beginning-reads
+use Rattle.log.proofs.has_room.Reads as has-room-reads
 use Rattle.log.proofs.append.Reads as append-reads
 use Rattle.log.proofs.join.Reads as join-reads
 use Rattle.log.proofs.latest_value.Reads as latest-value-reads
@@ -27,6 +28,7 @@ use Rattle.log.proofs.entry_ok.Reads as entry-ok-reads
 use Rattle.log.proofs.place_ok.Reads as place-ok-reads
 use Rattle.log.proofs.in_order.Reads as in-order-reads
 use Rattle.log.proofs.rest_zero.Reads as rest-zero-reads
+use Rattle.log.proofs.is_empty_log.Reads as is-empty-log-reads
 use Rattle.log.proofs.log_ok.Reads as log-ok-reads
 
 pub zero-entry : OneResult (λ x. zero-entry-reads.Learnt tt tt x tt)
@@ -68,6 +70,9 @@ common-beginning a b = one-result (commonBeginning (live a) (live b))
 pub is-beginning : (a b : Log) → OneResult (λ x. is-beginning-reads.Learnt tt (a, (b, tt)) x (a, (b, tt)))
 is-beginning a b = one-result (isBeginning (live a) (live b))
 
+pub has-room : (g : Log) → OneResult (λ x. has-room-reads.Learnt tt (g, tt) x (g, tt))
+has-room g = one-result (hasRoom g)
+
 pub append : (g : Log) (e : Entry) → OneResult (λ x. append-reads.Learnt tt (g, (e, tt)) x (g, (e, tt)))
 append g e = one-result (appended g e)
 
@@ -84,10 +89,13 @@ pub place-ok : (term i : ℕ) (d e : Entry) → OneResult (λ x. place-ok-reads.
 place-ok term i d e = one-result (placeOk term i d e)
 
 pub in-order : (g : Log) (term : ℕ) → OneResult (λ x. in-order-reads.Learnt tt (g, (term, tt)) x (g, (term, tt)))
-in-order g term = one-result (inOrder term (live g))
+in-order g term = one-result (inOrder term (kept g))
 
 pub rest-zero : (g : Log) (k : ℕ) → OneResult (λ x. rest-zero-reads.Learnt tt (g, (k, tt)) x (g, (k, tt)))
 rest-zero g k = one-result (restZero g k)
+
+pub is-empty-log : (g : Log) → OneResult (λ x. is-empty-log-reads.Learnt tt (g, tt) x (g, tt))
+is-empty-log g = one-result (isEmptyLog g)
 
 pub log-ok : (g : Log) (term : ℕ) → OneResult (λ x. log-ok-reads.Learnt tt (g, (term, tt)) x (g, (term, tt)))
 log-ok g term = one-result (logOk term g)

@@ -1,4 +1,4 @@
--- One log by value: its slots and its length, the entries that it holds, and what makes a log. Assumes nothing.
+-- One log by value: its slots and its length, the entries that it keeps, the log by positions, and what makes a log. Assumes nothing.
 use mathlib.Core.List.{List}
 use mathlib.Core.Bool.{Bool, cond, _&&_}
 use Prim.Native.Nat.{ℕ, _+_}
@@ -9,11 +9,11 @@ use Rattle.log.specs.declared.Entry.{Entry}
 use Rattle.log.specs.declared.Log.{Log}
 use Rattle.log.specs.Entries.{zeroEntry}
 
--- a log holds at most 32 entries
+-- a log keeps at most 32 entries
 abbrev pub logLimit : ℕ
 logLimit = 32
 
--- positions that can be asked for, and lengths in notes and reports, go to 32
+-- positions go to 32: those that can be asked for (kinds 12 and 15), and so the lengths in notes and reports
 abbrev pub highestPosition : ℕ
 highestPosition = 32
 
@@ -35,9 +35,13 @@ live g = kept g
 abbrev pub lengthOf : Log → ℕ
 lengthOf g = length (live g)
 
+-- there is room for one entry more
+unfoldable pub hasRoom : Log → Bool
+hasRoom g = ltb (g .len) logLimit
+
 -- one entry more, in the first slot past the length; a full log stays as it is
 unfoldable pub appended : Log → Entry → Log
-appended g e = cond (ltb (g .len) logLimit) (record { entries = set (g .entries) (g .len) e; len = g .len + 1 }) g
+appended g e = cond (hasRoom g) (record { entries = set (g .entries) (g .len) e; len = g .len + 1 }) g
 
 -- the first k slots of a, and then the rest of b, of b's length
 abbrev pub joined : Log → Log → ℕ → Log

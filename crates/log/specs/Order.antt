@@ -9,7 +9,7 @@ use Rattle.clock.specs.Times.{isBefore}
 use Rattle.log.specs.declared.Entry.{Entry}
 use Rattle.log.specs.declared.Log.{Log}
 use Rattle.log.specs.Entries.{zeroEntry, sameEntry, entryAt}
-use Rattle.log.specs.Logs.{logLimit, live}
+use Rattle.log.specs.Logs.{logLimit, kept}
 
 -- a key is 0 to 15
 abbrev pub highestKey : ℕ
@@ -46,6 +46,10 @@ inOrder term es = every (length es) (λ i. placeOk term i (entryAt es i) (entryA
 unfoldable pub restZero : Log → ℕ → Bool
 restZero g k = every logLimit (λ i. ltb i k || sameEntry (getD (g .entries) i zeroEntry) zeroEntry)
 
--- the length is at most 32, slots past it are zero, and the entries are in order
+-- no entry, and every slot is zero
+unfoldable pub isEmptyLog : Log → Bool
+isEmptyLog g = eqb (g .len) 0 && restZero g 0
+
+-- no more entries than a log keeps, slots past them zero, and the entries in order
 unfoldable pub logOk : ℕ → Log → Bool
-logOk term g = leb (g .len) logLimit && (restZero g (g .len) && inOrder term (live g))
+logOk term g = leb (g .len) logLimit && (restZero g (g .len) && inOrder term (kept g))

@@ -3,8 +3,8 @@ ghost use mathlib.Core.Path.{_≡_};
 ghost use Prim.Native.Nat.{min};
 ghost use lib.ListN.{take};
 ghost use Rattle.log.specs.Entries.{zeroEntry, sameEntry, entryAt, lastTerm, appliedTime, commonBeginning, isBeginning, equalAt, hasEntry, latestValue};
-ghost use Rattle.log.specs.Logs.{mayAsk, emptyLog, live, lengthOf, appended, joined};
-ghost use Rattle.log.specs.Order.{entryOk, placeOk, inOrder, restZero, logOk};
+ghost use Rattle.log.specs.Logs.{mayAsk, emptyLog, kept, live, lengthOf, hasRoom, appended, joined};
+ghost use Rattle.log.specs.Order.{entryOk, placeOk, inOrder, restZero, isEmptyLog, logOk};
 use clock::Time;
 
 pub struct Entry {
@@ -19,10 +19,10 @@ pub struct Log {
     pub len: usize,
 }
 
-// How many entries a log can hold.
+// How many entries a log can keep.
 pub const LOG_LIMIT: usize = 32;
 
-// The highest position that can be asked for.
+// The highest position: what can be asked for, and lengths in notes and reports, go so far.
 pub const HIGHEST_POSITION: usize = 32;
 
 pub const HIGHEST_KEY: u8 = 15;
@@ -193,6 +193,13 @@ pub fn is_beginning(a: Log, b: Log) -> bool
     common_beginning(a, b) == length_of(a)
 }
 
+// Whether there is room for one entry more.
+pub fn has_room(g: Log) -> bool
+    ensures { λ r. ⌜ r ≡ hasRoom g ⌝ }
+{
+    g.len < LOG_LIMIT
+}
+
 // The log with one entry more; a full log stays as it is.
 pub fn append(g: Log, e: Entry) -> Log
     ensures { λ r. ⌜ r ≡ appended g e ⌝ }
@@ -289,7 +296,7 @@ pub fn place_ok(term: u16, i: usize, d: Entry, e: Entry) -> bool
 
 // Whether every entry of the log may stand in its place.
 pub fn in_order(g: Log, term: u16) -> bool
-    ensures { λ r. ⌜ r ≡ inOrder term (live g) ⌝ }
+    ensures { λ r. ⌜ r ≡ inOrder term (kept g) ⌝ }
 {
     let len = g.len;
     let mut d = ZERO_ENTRY;
@@ -321,6 +328,16 @@ pub fn rest_zero(g: Log, k: usize) -> bool
         i += 1;
     }
     true
+}
+
+// Whether the log has no entry and every slot is zero.
+pub fn is_empty_log(g: Log) -> bool
+    ensures { λ r. ⌜ r ≡ isEmptyLog g ⌝ }
+{
+    if g.len != 0 {
+        return false;
+    }
+    rest_zero(g, 0)
 }
 
 // Whether a well-formed record may hold the log at a server of this term.

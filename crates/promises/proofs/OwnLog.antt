@@ -14,16 +14,17 @@ use Rattle.base.proofs.Bools.{and-both}
 use Rattle.clock.specs.Times.{limit, zeroTime}
 use Rattle.log.specs.declared.Entry.{Entry}
 use Rattle.log.specs.Entries.{entryAt}
-use Rattle.log.specs.Logs.{logLimit, live}
+use Rattle.log.specs.Logs.{live}
 use Rattle.log.proofs.Common.{is-beginning}
 use Rattle.log.proofs.Live.{entryAt-take}
 use Rattle.log.proofs.Orderly.{Orderly, in-order, orderly-first}
+use Rattle.log.proofs.Tidy.{tidy-highest}
 use Rattle.cluster.specs.declared.Cluster.{Cluster}
 use Rattle.cluster.specs.Servers.{serverAt}
 use Rattle.cluster.proofs.Good.{ServerGood, good}
 use Rattle.reads.specs.MajorityRead.{covered}
 use Rattle.rules.proofs.Logs.{log-raised}
-use Rattle.histories.specs.Committed.{entriesOn, entriesOf, sameLengths, couldHold}
+use Rattle.histories.specs.Committed.{committedLimit, entriesOn, entriesOf, sameLengths, couldHold}
 use Rattle.histories.specs.Longest.{columnsOf}
 use Rattle.safety.specs.Time.{stamp}
 use Rattle.safety.proofs.Joins.{times-ordered}
@@ -42,7 +43,7 @@ columns-same (e ∷ es) = ap (λ (fs : List Entry). e ∷ fs) (columns-same es)
 columns-long : (es : List Entry) (f g : Entry → ℕ) → eqb (length (map f es)) (length (map g es)) ≡ true
 columns-long es f g = eq-eqb _ _ (length-map es f ∙ sym (length-map es g))
 
-columns-hold : (es : List Entry) → length es ≤ logLimit → Orderly limit es → couldHold (columnsOf es) ≡ true
+columns-hold : (es : List Entry) → length es ≤ committedLimit → Orderly limit es → couldHold (columnsOf es) ≡ true
 unfolding couldHold sameLengths
 columns-hold es short o =
     let terms : Entry → ℕ = λ e. e .term in
@@ -50,7 +51,7 @@ columns-hold es short o =
     (and-both _ _ (columns-long es (λ e. e .key) terms)
     (and-both _ _ (columns-long es (λ e. e .value) terms)
     (and-both _ _ (columns-long es (λ e. e .time .p) terms) (columns-long es (λ e. e .time .l) terms))))
-    (and-both _ _ (le-leb (length (map terms es)) logLimit (omega (arith, length-map es terms))) (rw (columns-same es) (in-order o)))
+    (and-both _ _ (le-leb (length (map terms es)) committedLimit (omega (arith, length-map es terms))) (rw (columns-same es) (in-order o)))
 
 -- ---- what is covered
 
@@ -65,8 +66,8 @@ module _ {n : ℕ} {some : 0 < n} {c : Cluster} (N : Now n some c) (i : ℕ) (l 
   order =
       orderly-first (log-raised (N .fits .each i (omega (arith, N .few)) .head .term) (one .log) .order) (serverAt c i .head .commit) (within N i)
 
-  short : length es ≤ logLimit
-  short = omega (arith, covered-long N i, one .commit-point, one .log .tidy .short)
+  short : length es ≤ committedLimit
+  short = omega (arith, covered-long N i, one .commit-point, tidy-highest (one .log .tidy))
 
   -- times rise from that of position 0, which is (0,0)
   not-zero : (k : ℕ) → 1 ≤ k → k ≤ length es → entryAt es k .time ≢ zeroTime

@@ -2,9 +2,6 @@
 use mathlib.Core.Path.{_≡_, refl, ap, _∙_}
 use mathlib.Core.Bool.{true, false}
 use mathlib.Core.List.{List, [], _∷_, _++_}
-use Prim.Native.Nat.{_<_}
-use native.Mathlib.Omega.{arith}
-use borrow.Author.Tests.{ltb-true}
 use Rattle.base.proofs.Bools.{not-both}
 use Rattle.clock.specs.declared.Time.{Time}
 use Rattle.clock.specs.declared.Ticked.{Ticked}
@@ -14,9 +11,9 @@ use Rattle.clock.proofs.Order.{then-before}
 use Rattle.clock.proofs.Ticks.{tick-after}
 use Rattle.log.specs.declared.Entry.{Entry}
 use Rattle.log.specs.Entries.{appliedTime}
-use Rattle.log.specs.Logs.{logLimit, live, lengthOf, appended}
+use Rattle.log.specs.Logs.{live, hasRoom, appended}
 use Rattle.log.proofs.Positions.{last-more}
-use Rattle.log.proofs.Tidy.{Tidy, tidy-length, live-appended}
+use Rattle.log.proofs.Tidy.{Tidy, live-appended}
 use Rattle.cluster.specs.declared.Server.{Server}
 use Rattle.steps.specs.Reasons.{Clear}
 use Rattle.singles.specs.Appends.{ticks, tickTime, appendRules}
@@ -37,10 +34,10 @@ module _ (s : Server) (from : Time) (c : Clear (appendRules s from)) where
   pub stamp-after : (t : Time) → isBefore from t ≡ false → isBefore t (stampFrom s from) ≡ true
   stamp-after t h = then-before t from _ h (tick-after (s .head .wall) from _ ticked)
 
-  module _ (t : Tidy (s .log)) where
-    pub room : s .log .len < logLimit
-    room = omega (arith, ltb-true (lengthOf (s .log)) logLimit (c .1 .0), tidy-length t)
+  pub room : hasRoom (s .log) ≡ true
+  room = c .1 .0
 
+  module _ (t : Tidy (s .log)) where
     pub live-more : (e : Entry) → live (appended (s .log) e) ≡ live (s .log) ++ (e ∷ [])
     live-more e = live-appended t e room
 

@@ -14,11 +14,11 @@ use Rattle.clock.specs.Times.{isBefore}
 use Rattle.log.specs.declared.Entry.{Entry}
 use Rattle.log.specs.declared.Log.{Log}
 use Rattle.log.specs.Entries.{entryAt, lastTerm, appliedTime}
-use Rattle.log.specs.Logs.{logLimit, live, appended, joined}
+use Rattle.log.specs.Logs.{live, lengthOf, hasRoom, appended, joined}
 use Rattle.log.proofs.Live.{entryAt-zero}
 use Rattle.log.proofs.Orderly.{EntryGood, Orderly, LogGood}
 use Rattle.log.proofs.Positions.{length-more, entryAt-old, entryAt-new, entryAt-joined-low, entryAt-joined-high}
-use Rattle.log.proofs.Tidy.{tidy-length, live-appended, tidy-appended, live-joined, tidy-joined}
+use Rattle.log.proofs.Tidy.{live-appended, tidy-appended, live-joined, tidy-joined}
 
 -- ---- a greater term
 
@@ -91,7 +91,7 @@ module _ (k : ℕ) (xs ys : List Entry) (kx : k ≤ length xs) (ky : k ≤ lengt
 -- ---- one entry more, of the server's term and after the last time
 
 pub appended-good : {term : ℕ} {g : Log} {e : Entry} → LogGood term g → EntryGood term e → term ≤ e .term
-    → isBefore (appliedTime (live g)) (e .time) ≡ true → g .len < logLimit → LogGood term (appended g e)
+    → isBefore (appliedTime (live g)) (e .time) ≡ true → hasRoom g ≡ true → LogGood term (appended g e)
 appended-good {term} {g} {e} o new top after room =
     record { tidy = tidy-appended (o .tidy) e room; order = rw (live-appended (o .tidy) e room) order }
   where
@@ -105,19 +105,17 @@ appended-good {term} {g} {e} o new top after room =
 
 -- ---- a join where both agree
 
-pub joined-good : {t u : ℕ} {a b : Log} → LogGood t a → LogGood u b → (k : ℕ) → k ≤ a .len → k ≤ b .len
+pub joined-good : {t u : ℕ} {a b : Log} → LogGood t a → LogGood u b → (k : ℕ) → k ≤ lengthOf a → k ≤ lengthOf b
     → (1 ≤ k → entryAt (live a) k ≡ entryAt (live b) k) → LogGood (max t u) (joined a b k)
 joined-good {t} {u} {a} {b} x y k ka kb agree =
     record { tidy = tidy-joined (x .tidy) (y .tidy) k ka kb; order = rw (live-joined (x .tidy) (y .tidy) k ka kb) order }
   where
     order : Orderly (max t u) (joinedAt k (live a) (live b))
     order =
-        let kx : k ≤ length (live a) = omega (arith, tidy-length (x .tidy)) in
-        let ky : k ≤ length (live b) = omega (arith, tidy-length (y .tidy)) in
         let ox : Orderly (max t u) (live a) = orderly-raised (omega arith) (x .order) in
         let oy : Orderly (max t u) (live b) = orderly-raised (omega arith) (y .order) in
         record {
-          each = each-joined k (live a) (live b) kx ky agree (EntryGood (max t u)) (ox .each) (oy .each);
-          terms = along-joined k (live a) (live b) kx ky agree (λ d e. d .term ≤ e .term) (ox .terms) (oy .terms);
-          times = along-joined k (live a) (live b) kx ky agree (λ d e. isBefore (d .time) (e .time) ≡ true) (ox .times) (oy .times);
+          each = each-joined k (live a) (live b) ka kb agree (EntryGood (max t u)) (ox .each) (oy .each);
+          terms = along-joined k (live a) (live b) ka kb agree (λ d e. d .term ≤ e .term) (ox .terms) (oy .terms);
+          times = along-joined k (live a) (live b) ka kb agree (λ d e. isBefore (d .time) (e .time) ≡ true) (ox .times) (oy .times);
         }

@@ -26,7 +26,7 @@ use Rattle.log.proofs.Common.{common-le, rolled-is}
 use Rattle.log.proofs.Equal.{equal-at}
 use Rattle.log.proofs.Orderly.{Writing, LogGood}
 use Rattle.log.proofs.Positions.{length-more, last-joined}
-use Rattle.log.proofs.Tidy.{tidy-length, tidy-appended, live-joined}
+use Rattle.log.proofs.Tidy.{tidy-highest, live-joined, long-joined}
 use Rattle.cluster.specs.declared.Head.{Head}
 use Rattle.cluster.specs.declared.Server.{Server}
 use Rattle.cluster.specs.Servers.{mostServers, withPrimary, withHead, withMail}
@@ -59,11 +59,11 @@ use Rattle.rules.proofs.Ranges.{fits-later, fits-tick}
 
 -- a server with the same log: its other head has to meet these
 pub log-kept : {n i : ℕ} {s : Server} {h : Head} → ServerSound n i s → s .head .term ≤ h .term → h .term ≤ limit → (h .primary ≡ true → 1 ≤ h .term)
-    → h .commit ≤ s .log .len → 1 ≤ h .wall → h .wall ≤ limit → FitsTime (h .time) → isBefore (h .time) (appliedTime (live (s .log))) ≡ false
+    → h .commit ≤ lengthOf (s .log) → 1 ≤ h .wall → h .wall ≤ limit → FitsTime (h .time) → isBefore (h .time) (appliedTime (live (s .log))) ≡ false
     → ServerSound n i (withHead s h)
 log-kept x up term role commit wall clock time last =
     record {
-      fits = fits-head (x .fits) (record { term = term; commit = omega (arith, x .good .log .tidy .short); wall = clock; time = time });
+      fits = fits-head (x .fits) (record { term = term; commit = omega (arith, tidy-highest (x .good .log .tidy)); wall = clock; time = time });
       good = record { log = log-raised up (x .good .log); last-time = last; commit-point = commit; wall-clock = wall; primary-term = role };
       mailed = x .mailed;
     }
@@ -93,7 +93,7 @@ module _ {n i : ℕ} {s : Server} (h : ServerSound n i s) where
 
   pub committed-sound : (p : ℕ) → p ≤ lengthOf (s .log) → ServerSound n i (committedOf s p)
   committed-sound p l =
-      log-kept h (omega arith) (h .fits .head .term) (h .good .primary-term) (omega (arith, tidy-length (h .good .log .tidy))) (h .good .wall-clock) (h .fits .head .wall) (h .fits .head .time)
+      log-kept h (omega arith) (h .fits .head .term) (h .good .primary-term) l (h .good .wall-clock) (h .fits .head .wall) (h .fits .head .time)
       (h .good .last-time)
 
   -- a member takes a term that is above its own
@@ -120,10 +120,10 @@ module _ {n i : ℕ} {s : Server} (h : ServerSound n i s) where
   -- and what a log of some entries is told of is a used report
   pub report-used : i < n → 1 ≤ lengthOf (s .log) → UsedReport n (reportOf i s)
   report-used l some =
-      let len = tidy-length (h .good .log .tidy) in
+      let highest = tidy-highest (h .good .log .tidy) in
       let last = h .good .log .order .each (lengthOf (s .log)) some (omega arith) in
-      let kept : numberOf (lengthOf (s .log)) ≡ lengthOf (s .log) = number-kept (lengthOf (s .log)) (omega (arith, h .good .log .tidy .short)) in
-      record { below = l; from-one = omega (arith, kept); not-past = omega (arith, kept, h .good .log .tidy .short); last-from-one = last .from-one; last-not-above = last .not-above }
+      let kept : numberOf (lengthOf (s .log)) ≡ lengthOf (s .log) = number-kept (lengthOf (s .log)) (omega (arith, highest)) in
+      record { below = l; from-one = omega (arith, kept); not-past = omega (arith, kept, highest); last-from-one = last .from-one; last-not-above = last .not-above }
 
   pub report-fits : i < byte → FitsReport (reportOf i s)
   report-fits l =
@@ -148,17 +148,13 @@ module _ {n i j : ℕ} {s t : Server} (h : ServerSound n i s) (k : ServerSound n
       (not-after-trans _ (s .head .time) _ (h .good .last-time) (later-left (s .head .time) (t .head .time)))
     where
       -- a commit point that is taken is a position of the own log
-      reached : (b : Bool) → (ltb (s .head .commit) (t .head .commit) && equalAt (live (s .log)) (live (t .log)) (t .head .commit)) ≡ b → cond b (t .head .commit) (s .head .commit) ≤ s .log .len
+      reached : (b : Bool) → (ltb (s .head .commit) (t .head .commit) && equalAt (live (s .log)) (live (t .log)) (t .head .commit)) ≡ b → cond b (t .head .commit) (s .head .commit) ≤ lengthOf (s .log)
       reached true e =
-          omega (
-            arith,
-            tidy-length (h .good .log .tidy),
-            equal-at (live (s .log)) (live (t .log)) (t .head .commit) (and-right (ltb (s .head .commit) (t .head .commit)) _ e) .left,
-          )
+          equal-at (live (s .log)) (live (t .log)) (t .head .commit) (and-right (ltb (s .head .commit) (t .head .commit)) _ e) .left
       reached false e = h .good .commit-point
 
   took-sound : (g : Log) → LogGood (max (s .head .term) (t .head .term)) g → FitsLog g → appliedTime (live g) ≡ appliedTime (live (t .log))
-      → s .head .commit ≤ g .len → t .head .commit ≤ g .len → ServerSound n i (tookOf s t g)
+      → s .head .commit ≤ lengthOf g → t .head .commit ≤ lengthOf g → ServerSound n i (tookOf s t g)
   unfolding tookOf
   took-sound g order range last sc tc =
       record {
@@ -180,15 +176,14 @@ module _ {n i j : ℕ} {s t : Server} (h : ServerSound n i s) (k : ServerSound n
 
   pub pulled-sound : Clear (pullRules s t) → ServerSound n i (pulledOf s t)
   pulled-sound c =
-      let ls : lengthOf (s .log) ≡ s .log .len = tidy-length (h .good .log .tidy) in
-      let lt : lengthOf (t .log) ≡ t .log .len = tidy-length (k .good .log .tidy) in
       let shorter : lengthOf (s .log) < lengthOf (t .log) = ltb-true _ _ (c .1 .0) in
+      let long = long-joined (h .good .log .tidy) (k .good .log .tidy) (lengthOf (s .log)) (omega arith) (omega arith) in
       took-sound (joined (s .log) (t .log) (lengthOf (s .log)))
       (joined-good (h .good .log) (k .good .log) (lengthOf (s .log)) (omega arith) (omega arith) (agree (c .1 .1 .0)))
-      (fits-joined (lengthOf (s .log)) (h .fits .log) (k .fits .log) (omega (arith, h .good .log .tidy .short)))
+      (fits-joined (lengthOf (s .log)) (h .fits .log) (k .fits .log) (omega arith))
       (ap (λ (es : List Entry). appliedTime es) (live-joined (h .good .log .tidy) (k .good .log .tidy) (lengthOf (s .log)) (omega arith) (omega arith))
       ∙ ap (λ (e : Entry). e .time) (last-joined (lengthOf (s .log)) (live (s .log)) (live (t .log)) (omega arith) shorter))
-      (omega (arith, h .good .commit-point)) (k .good .commit-point)
+      (omega (arith, long, h .good .commit-point)) (omega (arith, long, k .good .commit-point))
     where
       -- the logs join at an equal entry
       agree : (eqb (lengthOf (s .log)) 0 || equalAt (live (s .log)) (live (t .log)) (lengthOf (s .log))) ≡ true → 1 ≤ lengthOf (s .log)
@@ -203,18 +198,20 @@ module _ {n i j : ℕ} {s t : Server} (h : ServerSound n i s) (k : ServerSound n
       let kept : s .head .commit ≤ common s t = leb-true _ _ (c .1 .1 .1 .1 .0) in
       subst (λ (g : Log). ServerSound n i (tookOf s t g)) (sym (rolled-is (s .log) (t .log)))
       (took-sound (t .log) (log-raised (omega arith) (k .good .log)) (k .fits .log) refl
-      (omega (arith, common-le (live (s .log)) (live (t .log)) .1, tidy-length (k .good .log .tidy))) (k .good .commit-point))
+      (omega (arith, common-le (live (s .log)) (live (t .log)) .1)) (k .good .commit-point))
 
   -- either way there are entries then, as many as the other has
-  took-some : (g : Log) → ServerSound n i (tookOf s t g) → g .len ≡ t .log .len → 1 ≤ lengthOf (t .log) → 1 ≤ lengthOf (tookOf s t g .log)
+  took-some : (g : Log) → lengthOf g ≡ lengthOf (t .log) → 1 ≤ lengthOf (t .log) → 1 ≤ lengthOf (tookOf s t g .log)
   unfolding tookOf
-  took-some g x e some = omega (arith, tidy-length (x .good .log .tidy), tidy-length (k .good .log .tidy))
+  took-some g e some = omega arith
 
   pub pulled-some : Clear (pullRules s t) → 1 ≤ lengthOf (pulledOf s t .log)
-  pulled-some c = took-some _ (pulled-sound c) refl (omega (arith, ltb-true (lengthOf (s .log)) (lengthOf (t .log)) (c .1 .0)))
+  pulled-some c =
+      let shorter : lengthOf (s .log) < lengthOf (t .log) = ltb-true _ _ (c .1 .0) in
+      took-some _ (long-joined (h .good .log .tidy) (k .good .log .tidy) (lengthOf (s .log)) (omega arith) (omega arith)) (omega arith)
 
   pub rolled-some : Clear (rollRules s t) → 1 ≤ lengthOf (rolledOf s t .log)
-  rolled-some c = took-some _ (rolled-sound c) refl (⊎-elim (λ l. l) none (lt-or-le 0 (lengthOf (t .log))))
+  rolled-some c = took-some _ (ap (λ (g : Log). lengthOf g) (rolled-is (s .log) (t .log))) (⊎-elim (λ l. l) none (lt-or-le 0 (lengthOf (t .log))))
     where
       -- the last term of no entries is 0, and none is below it
       none : lengthOf (t .log) ≤ 0 → 1 ≤ lengthOf (t .log)
@@ -232,16 +229,8 @@ module _ {n i : ℕ} {s : Server} (h : ServerSound n i s) (key value : ℕ) (kep
   time-fits : FitsTime (stampFrom s from)
   time-fits = fits-tick (s .head .wall) from _ (h .fits .head .wall) fits (ticked s from c)
 
-  longer : s .log .len < appended (s .log) new .len
-  longer =
-      let t = h .good .log .tidy in
-      omega (
-        arith,
-        tidy-length t,
-        tidy-length (tidy-appended t new (room s from c t)),
-        ap (λ (es : List Entry). length es) (live-more s from c t new),
-        length-more (live (s .log)) new,
-      )
+  longer : lengthOf (s .log) < lengthOf (appended (s .log) new)
+  longer = omega (arith, ap (λ (es : List Entry). length es) (live-more s from c (h .good .log .tidy) new), length-more (live (s .log)) new)
 
   -- the start is not before the cluster time, which is not before the applied time
   pub appended-sound : ServerSound n i (stampedOf s key value (stampFrom s from))
@@ -252,7 +241,7 @@ module _ {n i : ℕ} {s : Server} (h : ServerSound n i s) (key value : ℕ) (kep
             (fits-appended (h .fits .log) (record { term = h .fits .head .term; key = kept; value = small; time = time-fits }));
         good = record {
           log = appended-good (h .good .log) (record { from-one = h .good .primary-term (c .0); not-above = omega arith; writes = w }) (omega arith)
-              (stamp-after s from c _ (not-after-trans _ (s .head .time) from (h .good .last-time) reached)) (room s from c (h .good .log .tidy));
+              (stamp-after s from c _ (not-after-trans _ (s .head .time) from (h .good .last-time) reached)) (room s from c);
           last-time = rw (applied-more s from c (h .good .log .tidy) new) (before-itself (stampFrom s from));
           commit-point = omega (arith, longer, h .good .commit-point);
           wall-clock = h .good .wall-clock;

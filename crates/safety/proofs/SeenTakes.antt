@@ -17,7 +17,7 @@ use Rattle.log.proofs.Common.{rolled-is}
 use Rattle.log.proofs.Equal.{equal-at}
 use Rattle.log.proofs.Live.{entryAt-zero}
 use Rattle.log.proofs.Positions.{entryAt-joined-low, entryAt-joined-high}
-use Rattle.log.proofs.Tidy.{Tidy, tidy-length, live-joined}
+use Rattle.log.proofs.Tidy.{Tidy, live-joined}
 use Rattle.cluster.specs.declared.Server.{Server}
 use Rattle.cluster.specs.declared.Cluster.{Cluster}
 use Rattle.cluster.specs.Ranges.{Fits}
@@ -97,7 +97,7 @@ module _ {𝓠 : Quorums} {u : ClusterSeen} (c : Cluster) (f : Fits c) (g : Good
       let short = ltb-true k (lengthOf (t .log)) (r .1 .0) in
       let x = tidy-at c g a (h .0) in
       let y = tidy-at c g b (h .1 .0) in
-      let e = live-joined x y k (omega (arith, tidy-length x)) (omega (arith, tidy-length y)) in
+      let e = live-joined x y k (omega arith) (omega arith) in
       let may : Copies (view c a) (view c b) = pulls (omega arith) last in
       took c f a b (h .0) (not-true (s .head .primary) (r .0)) (joined (s .log) (t .log) k) may
       (ap length e ∙ length-joined k (live (s .log)) (live (t .log)) (omega arith) (omega arith))
@@ -113,7 +113,7 @@ module _ {𝓠 : Quorums} {u : ClusterSeen} (c : Cluster) (f : Fits c) (g : Good
       let s = serverAt c a in
       let t = serverAt c b in
       holds-common s t (f .each a (in-range c a la) .log) (f .each b (in-range c b lb) .log)
-      (omega (arith, tidy-length (tidy-at c g a la), g .counted a (omega (arith, ltb-true a (serverCount c) la)) .commit-point))
+      (g .counted a (omega (arith, ltb-true a (serverCount c) la)) .commit-point)
       (no-refusal-9 start w a b (rollsBack (ltb-true _ _ h)))
 
   pub roll-not-9 : (a b : ℕ) → Broken (bothInRange c a b (rollRules (serverAt c a) (serverAt c b))) BelowCommitPoint → ⊥

@@ -4,12 +4,11 @@
 use mathlib.Core.Path.{_≡_, refl, ap, sym, _∙_, subst}
 use mathlib.Core.Bool.{true}
 use mathlib.Core.Logic.{⊎-elim, by-cases}
-use Prim.Native.Nat.{ℕ, zero, suc, _<_, _≤_}
+use Prim.Native.Nat.{ℕ, _<_, _≤_}
 use native.Mathlib.Decide.{ℕ-discrete}
 use native.Mathlib.Omega.{arith}
 use lib.Dec.{ltb}
-use lib.ListN.{getD, take, length-take, List·getD-eq-default}
-use lib.Seq.{getD-take}
+use lib.ListN.{take, List·getD-eq-default}
 use borrow.Author.Tests.{ltb-true}
 use Rattle.base.specs.Lists.{each}
 use Rattle.base.proofs.Each.{length-eachFrom}
@@ -17,11 +16,12 @@ use Rattle.base.proofs.Facts.{lt-or-le}
 use Rattle.clock.specs.Ranges.{FitsTime}
 use Rattle.log.specs.declared.Entry.{Entry}
 use Rattle.log.specs.declared.Log.{Log}
-use Rattle.log.specs.Entries.{zeroEntry, entryAt, commonBeginning, isBeginning}
-use Rattle.log.specs.Logs.{logLimit, live, lengthOf}
+use Rattle.log.specs.Entries.{entryAt, commonBeginning, isBeginning}
+use Rattle.log.specs.Logs.{live, lengthOf}
 use Rattle.log.specs.Ranges.{FitsLog}
 use Rattle.log.proofs.Common.{common-longest, first-beginning}
 use Rattle.log.proofs.Positions.{same-first}
+use Rattle.log.proofs.Ranges.{fits-entry}
 use Rattle.cluster.specs.declared.Server.{Server}
 use Rattle.cluster.specs.declared.Cluster.{Cluster}
 use Rattle.cluster.specs.Ranges.{Fits}
@@ -124,22 +124,9 @@ fresh-seen n =
 
 -- ---- entries
 
-fits-zero : FitsTime (zeroEntry .time)
-fits-zero = omega arith
-
-fits-slot : (g : Log) → FitsLog g → (i : ℕ) → FitsTime (getD (g .entries) i zeroEntry .time)
-fits-slot g f i =
-    ⊎-elim (λ h. f .each i h .time)
-    (λ h. rw (List·getD-eq-default (g .entries) zeroEntry {n = i} (omega (arith, f .slots))) fits-zero) (lt-or-le i logLimit)
-
 -- the time at any position fits
 pub fits-time : (g : Log) → FitsLog g → (n : ℕ) → FitsTime (entryAt (live g) n .time)
-unfolding entryAt
-fits-time g f zero = fits-zero
-fits-time g f (suc i) =
-    ⊎-elim (λ h. rw (getD-take (g .len) (g .entries) i zeroEntry h) (fits-slot g f i))
-    (λ h. rw (List·getD-eq-default (live g) zeroEntry {n = i} (omega (arith, length-take (g .len) (g .entries)))) fits-zero)
-    (lt-or-le i (g .len))
+fits-time g f n = fits-entry f n .time
 
 -- entries whose times fit are equal where they look equal
 pub same-entry : (d e : Entry) → FitsTime (d .time) → FitsTime (e .time) → seenEntry d ≡ seenEntry e → d ≡ e

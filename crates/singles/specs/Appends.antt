@@ -2,13 +2,12 @@
 use mathlib.Core.List.{[], _∷_}
 use mathlib.Core.Bool.{Bool, true, false}
 use Prim.Native.Nat.{ℕ}
-use lib.Dec.{ltb}
 use Rattle.clock.specs.declared.Time.{Time}
 use Rattle.clock.specs.declared.Ticked.{Ticked}
 use Rattle.clock.specs.declared.Ticked.the-variants.{To, AtLimit}
 use Rattle.clock.specs.Times.{zeroTime, tickOf}
 use Rattle.log.specs.declared.Entry.{Entry}
-use Rattle.log.specs.Logs.{logLimit, lengthOf, appended}
+use Rattle.log.specs.Logs.{lengthOf, hasRoom, appended}
 use Rattle.cluster.specs.declared.Server.{Server}
 use Rattle.cluster.specs.Servers.{withTime, withHead, withLog}
 use Rattle.steps.specs.declared.Sends.the-variants.{Nothing}
@@ -31,7 +30,7 @@ tickTime AtLimit = zeroTime
 abbrev pub appendRules : Server → Time → Rules
 appendRules s from =
     (s .head .primary, R.WrongRole)
-    ∷ (ltb (lengthOf (s .log)) logLimit, R.LogFull)
+    ∷ (hasRoom (s .log), R.LogFull)
     ∷ (ticks (tickOf (s .head .wall) from), R.AtLimit)
     ∷ []
 

@@ -43,7 +43,7 @@ pub fn appends(s: Server, key: u8, value: u16, from: Time) -> Stepped
         return steps::refuse(s, Refusal::WrongRole);
     }
     let g = s.log;
-    if log::LOG_LIMIT <= log::length_of(g) {
+    if !log::has_room(g) {
         return steps::refuse(s, Refusal::LogFull);
     }
     let Ticked::To(time) = clock::tick(s.head.wall, from) else {

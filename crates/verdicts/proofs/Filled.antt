@@ -3,15 +3,16 @@ use mathlib.Core.Path.{_≡_, refl, sym, ap, _∙_}
 use mathlib.Core.List.{List, [], _∷_, map}
 use Prim.Native.Nat.{ℕ, zero, suc, _+_, _<_, _≤_}
 use native.Mathlib.Omega.{arith}
-use lib.ListN.{length, getD, set, take, replicate, length-map, length-replicate, length-take, List·getD-map}
-use lib.Seq.{take-length, take-take}
+use lib.ListN.{length, getD, set, take, replicate, length-map, length-replicate, List·getD-map}
+use lib.Seq.{take-length}
 use Rattle.log.specs.declared.Entry.{Entry}
 use Rattle.log.specs.declared.Log.{Log}
 use Rattle.log.specs.Entries.{zeroEntry}
 use Rattle.log.specs.Logs.{logLimit, live, lengthOf}
+use Rattle.log.proofs.Live.{length-live, first-slots}
 use Rattle.hex.proofs.Places.{Put, put-none, put-more, put-all}
 use Rattle.hex.proofs.Trips.{over-all}
-use Rattle.histories.specs.Committed.{lent, entriesOn, entriesOf}
+use Rattle.histories.specs.Committed.{committedLimit, lent, entriesOn, entriesOf}
 use Rattle.histories.specs.Longest.{columnsOf}
 use Rattle.verdicts.specs.declared.Columns.{Columns}
 use Rattle.verdicts.specs.Verdicts.{allColumns}
@@ -19,7 +20,7 @@ use Rattle.verdicts.specs.Verdicts.{allColumns}
 -- ---- slot by slot
 
 abbrev zeros : List ℕ
-zeros = replicate logLimit 0
+zeros = replicate committedLimit 0
 
 -- a field of each entry, the first i of which are put into the array
 abbrev Filled : (Entry → ℕ) → List Entry → List ℕ → ℕ → Type 0
@@ -28,13 +29,13 @@ Filled f es column i = Put (map f es) zeros column i
 module _ (es : List Entry) (long : length es ≡ logLimit) (f : Entry → ℕ) (z : f zeroEntry ≡ 0) {column : List ℕ} {i : ℕ} (u : Filled f es column i) where
   filled-more : i < logLimit → Filled f es (set column i (f (getD es i zeroEntry))) (i + 1)
   filled-more h =
-      put-more u (omega (arith, length-map es f)) (omega (arith, length-replicate {A = ℕ} logLimit 0))
+      put-more u (omega (arith, length-map es f)) (omega (arith, length-replicate {A = ℕ} committedLimit 0))
       (sym (ap (getD (map f es) i) (sym z) ∙ List·getD-map f es i zeroEntry))
 
   filled-all : i ≡ logLimit → column ≡ map f es
   filled-all h =
-      put-all u (omega (arith, length-map es f, length-replicate {A = ℕ} logLimit 0))
-      ∙ over-all (map f es) zeros (omega (arith, length-map es f, length-replicate {A = ℕ} logLimit 0))
+      put-all u (omega (arith, length-map es f, length-replicate {A = ℕ} committedLimit 0))
+      ∙ over-all (map f es) zeros (omega (arith, length-map es f, length-replicate {A = ℕ} committedLimit 0))
 
 -- all five
 pub record AllFilled (es : List Entry) (c : Columns) (i : ℕ) : Type 0 where
@@ -91,7 +92,7 @@ module _ (g : Log) (n : ℕ) (h : n ≡ lengthOf g) where
   take-live : take n (g .entries) ≡ live g
   take-live =
       ap (λ (k : ℕ). take k (g .entries)) h
-      ∙ sym (take-take (lengthOf g) (g .len) (g .entries) (omega (arith, length-take (g .len) (g .entries)))) ∙ take-length (live g)
+      ∙ first-slots g (lengthOf g) (omega arith) ∙ take-length (live g)
 
   part : (f : Entry → ℕ) → take n (map f (g .entries)) ≡ map f (live g)
   part f = map-take f n (g .entries) ∙ ap (map f) take-live
@@ -114,7 +115,7 @@ pub all-fit : (g : Log) (n : ℕ) (c : Columns) → n ≡ lengthOf g → c ≡ a
 all-fit g n c h e = rw e record { terms = fit (λ d. d .term); keys = fit (λ d. d .key); values = fit (λ d. d .value); ps = fit (λ d. d .time .p); ls = fit (λ d. d .time .l) }
   where
     fit : (f : Entry → ℕ) → n ≤ length (map f (g .entries))
-    fit f = omega (arith, length-map (g .entries) f, length-take (g .len) (g .entries))
+    fit f = omega (arith, length-map (g .entries) f, length-live g (length (g .entries)) refl)
 
 -- the entries of a log that is lent are the log's
 pub columns-same : (es : List Entry) → entriesOf (columnsOf es) ≡ es

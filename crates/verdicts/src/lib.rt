@@ -7,6 +7,7 @@ ghost use Rattle.histories.specs.Reasons.{whyOf};
 ghost use Rattle.phones.specs.Listed.{recordsKept};
 ghost use Rattle.verdicts.specs.Verdicts.{allColumns, verdictOf};
 use followed::Run;
+use histories::COMMITTED_LIMIT;
 use histories::Checked;
 use histories::PhoneRecord;
 use histories::why::Reason;
@@ -24,22 +25,22 @@ pub enum Verdict {
 
 // A log with an array a field, as the check is lent it.
 pub struct Columns {
-    pub terms: [u16; LOG_LIMIT],
-    pub keys: [u8; LOG_LIMIT],
-    pub values: [u16; LOG_LIMIT],
-    pub ps: [u16; LOG_LIMIT],
-    pub ls: [u16; LOG_LIMIT],
+    pub terms: [u16; COMMITTED_LIMIT],
+    pub keys: [u8; COMMITTED_LIMIT],
+    pub values: [u16; COMMITTED_LIMIT],
+    pub ps: [u16; COMMITTED_LIMIT],
+    pub ls: [u16; COMMITTED_LIMIT],
 }
 
 fn spread(g: Log) -> Columns
     ensures { λ r. ⌜ r ≡ allColumns g ⌝ }
 {
     let mut c = Columns {
-        terms: [0; LOG_LIMIT],
-        keys: [0; LOG_LIMIT],
-        values: [0; LOG_LIMIT],
-        ps: [0; LOG_LIMIT],
-        ls: [0; LOG_LIMIT],
+        terms: [0; COMMITTED_LIMIT],
+        keys: [0; COMMITTED_LIMIT],
+        values: [0; COMMITTED_LIMIT],
+        ps: [0; COMMITTED_LIMIT],
+        ls: [0; COMMITTED_LIMIT],
     };
     let mut i: usize = 0;
     while i < LOG_LIMIT {

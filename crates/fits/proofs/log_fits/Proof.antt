@@ -1,6 +1,7 @@
 -- `fits::log_fits` meets its contract. Assumes nothing.
 use Rattle.log.specs.Ranges.{FitsEntry}
 use Rattle.log.specs.Entries.{zeroEntry}
+use Rattle.log.specs.Logs.{logLimit}
 use Rattle.base.proofs.Facts.{mapped-long}
 use native.Mathlib.Omega.{arith}
 use borrow.Author.Count.{below-more}
@@ -12,10 +13,10 @@ use Rattle.fits.proofs.log_fits.Statement.{statement}
 use Rattle.fits.proofs.log_fits.Tie as tie
 
 abbrev Inv-loop : tie.InvT-loop
-Inv-loop g i₀ i = (i ≤ 32) × ((j : ℕ) → j < i → FitsEntry (getD (g .entries) j zeroEntry))
+Inv-loop g i₀ i = (i ≤ logLimit) × ((j : ℕ) → j < i → FitsEntry (getD (g .entries) j zeroEntry))
 
 abbrev μ-loop : tie.MeasureT-loop
-μ-loop g i₀ i = 32 - i
+μ-loop g i₀ i = logLimit - i
 
 loop-holds : tie.Need-loop-holds Inv-loop μ-loop
 loop-holds c = (search needs, λ j h. absurd (omega arith))

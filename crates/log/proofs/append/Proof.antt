@@ -1,12 +1,12 @@
 -- `log::append` meets its contract. Assumes nothing.
-use Rattle.log.specs.Logs.{appended}
+use Rattle.log.specs.Logs.{hasRoom, appended}
 use Rattle.base.proofs.Facts.{tests}
 use borrow.Author.Needs.{needs}
 use Rattle.log.proofs.append.Statement.{statement}
 use Rattle.log.proofs.append.Tie as tie
 
 returns : tie.Need-returns
-unfolding appended
+unfolding hasRoom appended
 returns c = search (needs, tests)
 
 mul-e : tie.Need-mul-e
@@ -19,7 +19,7 @@ add-h : tie.Need-add-h
 add-h c = search needs
 
 returns-2 : tie.Need-returns-2
-unfolding appended
+unfolding hasRoom appended
 returns-2 c = search (needs, tests)
 
 pub append-spec : {M : Type 1} → statement M

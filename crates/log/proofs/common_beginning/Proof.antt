@@ -1,4 +1,5 @@
 -- `log::common_beginning` meets its contract. Assumes nothing.
+use Rattle.log.specs.Logs.{logLimit}
 use Rattle.log.proofs.Common.{Common, common-end-left, common-end-right, common-full, common-more, common-stops}
 use Rattle.base.proofs.Bools.{said-no, said-yes}
 use Rattle.base.proofs.Facts.{mapped-long, mapped-below}
@@ -11,10 +12,10 @@ use Rattle.log.proofs.common_beginning.Statement.{statement}
 use Rattle.log.proofs.common_beginning.Tie as tie
 
 abbrev Inv-loop : tie.InvT-loop
-Inv-loop a b m n i₀ i = (i ≤ 32) × Common a b i
+Inv-loop a b m n i₀ i = (i ≤ logLimit) × Common a b i
 
 abbrev μ-loop : tie.MeasureT-loop
-μ-loop a b m n i₀ i = 32 - i
+μ-loop a b m n i₀ i = logLimit - i
 
 loop-holds : tie.Need-loop-holds Inv-loop μ-loop
 loop-holds c = search needs
@@ -63,7 +64,7 @@ loop-again c =
 returns-4 : tie.Need-returns-4 Inv-loop μ-loop
 returns-4 c =
     let b = c .before in
-    let h : length (b .before .args .t1 .entries) ≡ 32 = search (needs, mapped-long) in
+    let h : length (b .before .args .t1 .entries) ≡ logLimit = search (needs, mapped-long) in
     common-full (b .before .args .t1) (b .before .args .t2) (b .loop .i) (b .loop .inv .1) (omega arith)
 
 pub common-beginning-spec : {M : Type 1} → statement M

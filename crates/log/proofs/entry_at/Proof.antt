@@ -1,4 +1,5 @@
 -- `log::entry_at` meets its contract. Assumes nothing.
+use Rattle.log.specs.Logs.{logLimit}
 use Rattle.log.proofs.Live.{entryAt-zero, entryAt-past, entryAt-before, length-live}
 use Rattle.base.proofs.Facts.{mapped-long}
 use lib.ListN.{length, length-take}
@@ -17,8 +18,8 @@ returns-2 c = let g = c .before .before .args .t1 in entryAt-past _ _ (omega (ar
 returns-3 : tie.Need-returns-3
 returns-3 c =
     let g = c .before .before .before .args .t1 in
-    let h : length (g .entries) ≡ 32 = search (needs, mapped-long) in
-    entryAt-past _ _ (omega (arith, length-live g 32 h))
+    let h : length (g .entries) ≡ logLimit = search (needs, mapped-long) in
+    entryAt-past _ _ (omega (arith, length-live g logLimit h))
 
 sub-result : tie.Need-sub-result
 sub-result c = search needs

@@ -1,7 +1,7 @@
 -- `log::in_order` meets its contract. Assumes nothing.
 use Rattle.log.proofs.Placed.{Placed, placed-none, placed-all, placed-more, placed-fails}
 use Rattle.log.proofs.Live.{length-live, entryAt-slot}
-use Rattle.log.specs.Logs.{live}
+use Rattle.log.specs.Logs.{logLimit, kept}
 use Rattle.base.proofs.Bools.{said-no, said-yes}
 use Rattle.base.proofs.Facts.{mapped-long}
 use native.Mathlib.Omega.{arith}
@@ -13,10 +13,10 @@ use Rattle.log.proofs.in_order.Statement.{statement}
 use Rattle.log.proofs.in_order.Tie as tie
 
 abbrev Inv-loop : tie.InvT-loop
-Inv-loop term g len d₀ i₀ d i = (i ≤ 32) × Placed term (live g) i d
+Inv-loop term g len d₀ i₀ d i = (i ≤ logLimit) × Placed term (kept g) i d
 
 abbrev μ-loop : tie.MeasureT-loop
-μ-loop term g len d₀ i₀ d i = 32 - i
+μ-loop term g len d₀ i₀ d i = logLimit - i
 
 loop-holds : tie.Need-loop-holds Inv-loop μ-loop
 loop-holds c = (search needs, placed-none)
@@ -24,8 +24,8 @@ loop-holds c = (search needs, placed-none)
 returns : tie.Need-returns Inv-loop μ-loop
 returns c =
     let b = c .before .before in
-    let h : length (b .before .args .t1 .entries) ≡ 32 = search (needs, mapped-long) in
-    placed-all (b .loop .inv .1) (omega (arith, length-live (b .before .args .t1) 32 h, b .loop .inv .1 .within))
+    let h : length (b .before .args .t1 .entries) ≡ logLimit = search (needs, mapped-long) in
+    placed-all (b .loop .inv .1) (omega (arith, length-live (b .before .args .t1) logLimit h, b .loop .inv .1 .within))
 
 mul-e : tie.Need-mul-e Inv-loop μ-loop
 mul-e c = search needs
@@ -39,8 +39,8 @@ place-ok-requires c κs = search needs
 returns-2 : tie.Need-returns-2 Inv-loop μ-loop
 returns-2 c =
     let b = c .before .before .before .before .before in
-    let h : length (b .before .args .t1 .entries) ≡ 32 = search (needs, mapped-long) in
-    placed-fails (b .loop .inv .1) _ (entryAt-slot (b .before .args .t1) (b .loop .i) (search needs)) (omega (arith, length-live (b .before .args .t1) 32 h))
+    let h : length (b .before .args .t1 .entries) ≡ logLimit = search (needs, mapped-long) in
+    placed-fails (b .loop .inv .1) _ (entryAt-slot (b .before .args .t1) (b .loop .i) (search needs)) (omega (arith, length-live (b .before .args .t1) logLimit h))
     (said-no _ _ (c .before .place-ok .ensures) (c .if2 .taken))
 
 add-i : tie.Need-add-i Inv-loop μ-loop
@@ -52,17 +52,17 @@ loop-less c = search needs
 loop-again : tie.Need-loop-again Inv-loop μ-loop
 loop-again c =
     let b = c .before .before .before .before .before in
-    let h : length (b .before .args .t1 .entries) ≡ 32 = search (needs, mapped-long) in (
+    let h : length (b .before .args .t1 .entries) ≡ logLimit = search (needs, mapped-long) in (
       search needs,
-      placed-more (b .loop .inv .1) _ (entryAt-slot (b .before .args .t1) (b .loop .i) (search needs)) (omega (arith, length-live (b .before .args .t1) 32 h))
+      placed-more (b .loop .inv .1) _ (entryAt-slot (b .before .args .t1) (b .loop .i) (search needs)) (omega (arith, length-live (b .before .args .t1) logLimit h))
           (said-yes _ _ (c .before .place-ok .ensures) (c .if2 .left)),
     )
 
 returns-3 : tie.Need-returns-3 Inv-loop μ-loop
 returns-3 c =
     let b = c .before in
-    let h : length (b .before .args .t1 .entries) ≡ 32 = search (needs, mapped-long) in
-    placed-all (b .loop .inv .1) (omega (arith, length-live (b .before .args .t1) 32 h, b .loop .inv .1 .within))
+    let h : length (b .before .args .t1 .entries) ≡ logLimit = search (needs, mapped-long) in
+    placed-all (b .loop .inv .1) (omega (arith, length-live (b .before .args .t1) logLimit h, b .loop .inv .1 .within))
 
 pub in-order-spec : {M : Type 1} → statement M
 in-order-spec =

@@ -1,4 +1,5 @@
 -- `log::join` meets its contract. Assumes nothing.
+use Rattle.log.specs.Logs.{logLimit}
 use Rattle.base.proofs.Joined.{joined-none, joined-more, joined-full}
 use Rattle.base.proofs.Facts.{mapped-long, mapped-below}
 use Rattle.base.specs.Lists.{joinedAt}
@@ -11,10 +12,10 @@ use Rattle.log.proofs.join.Statement.{statement}
 use Rattle.log.proofs.join.Tie as tie
 
 abbrev Inv-loop : tie.InvT-loop
-Inv-loop k a h₀ i₀ h i = (i ≤ 32) × (i ≤ k) × (h .len ≡ h₀ .len) × (h .entries ≡ joinedAt i (a .entries) (h₀ .entries))
+Inv-loop k a h₀ i₀ h i = (i ≤ logLimit) × (i ≤ k) × (h .len ≡ h₀ .len) × (h .entries ≡ joinedAt i (a .entries) (h₀ .entries))
 
 abbrev μ-loop : tie.MeasureT-loop
-μ-loop k a h₀ i₀ h i = 32 - i
+μ-loop k a h₀ i₀ h i = logLimit - i
 
 loop-holds : tie.Need-loop-holds Inv-loop μ-loop
 loop-holds c = (search needs, search needs, refl, joined-none (c .args .t1 .entries) _)
@@ -54,8 +55,8 @@ loop-again c =
 returns-2 : tie.Need-returns-2 Inv-loop μ-loop
 returns-2 c =
     let b = c .before in
-    let hx : length (b .before .args .t1 .entries) ≡ 32 = search (needs, mapped-long) in
-    let hy : length (b .before .args .b .entries) ≡ 32 = search (needs, mapped-long) in
+    let hx : length (b .before .args .t1 .entries) ≡ logLimit = search (needs, mapped-long) in
+    let hy : length (b .before .args .b .entries) ≡ logLimit = search (needs, mapped-long) in
     let e = b .loop .inv .3 ∙ joined-full (b .before .args .k) (b .loop .i) (b .before .args .t1 .entries) (b .before .args .b .entries) (omega arith) (omega arith) (b .loop .inv .1) in
     λ i. record { entries = e i; len = b .loop .inv .2 i }
 

@@ -3,7 +3,7 @@ use Rattle.log.specs.Entries.{entryAt, zeroEntry}
 use Rattle.log.specs.declared.Log.{Log}
 use Rattle.log.proofs.Live.{length-live, entryAt-take, entryAt-slot}
 use Rattle.log.proofs.Latest.{LatestWithin, latest-all, latest-here, latest-below, latest-none}
-use Rattle.log.specs.Logs.{live}
+use Rattle.log.specs.Logs.{logLimit, live}
 use Rattle.base.proofs.Facts.{mapped-long}
 use native.Mathlib.Omega.{arith}
 use lib.ListN.{length, take, length-take, getD}
@@ -14,7 +14,7 @@ use Rattle.log.proofs.latest_value.Statement.{statement}
 use Rattle.log.proofs.latest_value.Tie as tie
 
 abbrev Inv-loop : tie.InvT-loop
-Inv-loop key n g i₀ i = (i ≤ 32) × (i ≤ length (take n (live g))) × LatestWithin key (take n (live g)) i
+Inv-loop key n g i₀ i = (i ≤ logLimit) × (i ≤ length (take n (live g))) × LatestWithin key (take n (live g)) i
 
 abbrev μ-loop : tie.MeasureT-loop
 μ-loop key n g i₀ i = i
@@ -32,8 +32,8 @@ last-of-requires c κs = search needs
 loop-holds : tie.Need-loop-holds Inv-loop μ-loop
 loop-holds c =
     let l : c .last-of .result ≡ length (take (c .before .args .n) (live (c .before .args .t1))) = omega (arith, c .last-of .ensures, length-take (c .before .args .n) (live (c .before .args .t1))) in
-    let h : length (c .before .args .t1 .entries) ≡ 32 = search (needs, mapped-long) in
-    (omega (arith, length-live (c .before .args .t1) 32 h, length-take (c .before .args .n) (live (c .before .args .t1))), omega arith, latest-all l)
+    let h : length (c .before .args .t1 .entries) ≡ logLimit = search (needs, mapped-long) in
+    (omega (arith, length-live (c .before .args .t1) logLimit h, length-take (c .before .args .n) (live (c .before .args .t1))), omega arith, latest-all l)
 
 mul-e : tie.Need-mul-e Inv-loop μ-loop
 mul-e c = search needs

@@ -1,4 +1,5 @@
 -- `log::rest_zero` meets its contract. Assumes nothing.
+use Rattle.log.specs.Logs.{logLimit}
 use Rattle.log.proofs.Placed.{ZeroUpto, zero-none, zero-more, zero-fails, zero-all}
 use Rattle.base.proofs.Bools.{said-no, said-yes}
 use Prim.Native.Nat.{_≤_, _-_}
@@ -10,7 +11,7 @@ abbrev Inv-loop : tie.InvT-loop
 Inv-loop k g i₀ i = (k ≤ i) × ZeroUpto g k i
 
 abbrev μ-loop : tie.MeasureT-loop
-μ-loop k g i₀ i = 32 - i
+μ-loop k g i₀ i = logLimit - i
 
 loop-holds : tie.Need-loop-holds Inv-loop μ-loop
 loop-holds c = (search needs, zero-none (c .args .t1) _)

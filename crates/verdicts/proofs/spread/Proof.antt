@@ -5,18 +5,19 @@ use native.Mathlib.Omega.{arith}
 use lib.ListN.{length}
 use borrow.Author.Needs.{needs}
 use Rattle.base.proofs.Facts.{mapped-long}
+use Rattle.log.specs.Logs.{logLimit}
 use Rattle.verdicts.proofs.Filled.{AllFilled, all-none, all-more, all-done}
 use Rattle.verdicts.proofs.spread.Statement.{statement}
 use Rattle.verdicts.proofs.spread.Tie as tie
 
 abbrev Inv-loop : tie.InvT-loop
-Inv-loop g c₀ i₀ c i = (i ≤ 32) × AllFilled (g .entries) c i
+Inv-loop g c₀ i₀ c i = (i ≤ logLimit) × AllFilled (g .entries) c i
 
 abbrev μ-loop : tie.MeasureT-loop
-μ-loop g c₀ i₀ c i = 32 - i
+μ-loop g c₀ i₀ c i = logLimit - i
 
 -- the log has all its slots
-long : (c : tie.Start Inv-loop μ-loop) → length (c .args .t1 .entries) ≡ 32
+long : (c : tie.Start Inv-loop μ-loop) → length (c .args .t1 .entries) ≡ logLimit
 long c = search (needs, mapped-long)
 
 loop-holds : tie.Need-loop-holds Inv-loop μ-loop

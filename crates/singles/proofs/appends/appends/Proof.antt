@@ -3,12 +3,11 @@ use Rattle.steps.specs.Reasons.{here, later}
 use Rattle.steps.proofs.Decided.{decided-clear, decided-broken}
 use Rattle.steps.specs.Answers.{refusing}
 use Rattle.singles.specs.Appends.{ticks, tickTime, appendRules, appendDone, stampDone}
-use Rattle.log.specs.Logs.{lengthOf, logLimit}
+use Rattle.log.specs.Logs.{hasRoom}
 use Rattle.clock.specs.declared.Ticked.{Ticked}
-use borrow.Author.Tests.{lt-ltb, le-ltb, not-true, not-false}
-use native.Mathlib.Omega.{arith}
-use lib.Dec.{ltb}
-use mathlib.Core.Bool.{true, false}
+use Rattle.base.proofs.Bools.{said-no, said-yes}
+use borrow.Author.Tests.{not-true, not-false}
+use mathlib.Core.Bool.{true}
 use mathlib.Core.Path.{_≡_, ap, sym, _∙_}
 use borrow.Author.Needs.{needs}
 use Rattle.singles.proofs.appends.appends.Statement.{statement}
@@ -18,8 +17,8 @@ use Rattle.singles.proofs.appends.appends.Tie as tie
 primary : (c : tie.Else1) → c .before .before .args .s .head .primary ≡ true
 primary c = not-false _ (c .if1 .left)
 
-room : (c : tie.Else2) → ltb (lengthOf (c .before .before .before .before .before .args .s .log)) logLimit ≡ true
-room c = lt-ltb (lengthOf (c .before .before .before .before .before .args .s .log)) logLimit (omega (arith, c .before .length-of .ensures))
+room : (c : tie.Else2) → hasRoom (c .before .before .before .before .before .args .s .log) ≡ true
+room c = said-yes _ _ (c .before .has-room .ensures) (c .if2 .left)
 
 refuse-requires : tie.Need-refuse-requires
 refuse-requires c κs = search needs
@@ -29,8 +28,8 @@ returns c =
     let b = c .before .before .before .args in
     c .refuse .ensures ∙ sym (decided-broken (refusing (b .s)) (appendDone (b .s) (b .key) (b .value) (b .from)) {rs = appendRules (b .s) (b .from)} (here (not-true (b .s .head .primary) (c .before .if1 .taken))))
 
-length-of-requires : tie.Need-length-of-requires
-length-of-requires c κs = search needs
+has-room-requires : tie.Need-has-room-requires
+has-room-requires c κs = search needs
 
 refuse-requires-2 : tie.Need-refuse-requires-2
 refuse-requires-2 c κs = search needs
@@ -38,9 +37,8 @@ refuse-requires-2 c κs = search needs
 returns-2 : tie.Need-returns-2
 returns-2 c =
     let b = c .before .before .before .before .before .before .args in
-    let no : ltb (lengthOf (b .s .log)) logLimit ≡ false = le-ltb (lengthOf (b .s .log)) logLimit (omega (arith, c .before .before .length-of .ensures)) in
     c .refuse2 .ensures ∙ sym (decided-broken (refusing (b .s)) (appendDone (b .s) (b .key) (b .value) (b .from)) {rs = appendRules (b .s) (b .from)}
-    (later (primary (c .before .before .before .before)) (here no)))
+    (later (primary (c .before .before .before .before)) (here (said-no _ _ (c .before .before .has-room .ensures) (c .before .if2 .taken)))))
 
 tick-requires : tie.Need-tick-requires
 tick-requires c κs = search needs
@@ -77,7 +75,7 @@ appends-spec =
     (tie.spec
     refuse-requires
     returns
-    length-of-requires
+    has-room-requires
     refuse-requires-2
     returns-2
     tick-requires

@@ -1,14 +1,15 @@
 -- `trials::say::entries` is safe and ends. Assumes nothing.
 use Prim.Native.Nat.{_≤_, _-_}
 use borrow.Author.Needs.{needs}
+use Rattle.log.specs.Logs.{logLimit}
 use Rattle.trials.proofs.say.entries.Statement.{statement}
 use Rattle.trials.proofs.say.entries.Tie as tie
 
 abbrev Inv-loop : tie.InvT-loop
-Inv-loop i g k₀ k = k ≤ 32
+Inv-loop i g k₀ k = k ≤ logLimit
 
 abbrev μ-loop : tie.MeasureT-loop
-μ-loop i g k₀ k = 32 - k
+μ-loop i g k₀ k = logLimit - k
 
 loop-holds : tie.Need-loop-holds Inv-loop μ-loop
 loop-holds c = search needs
