@@ -163,16 +163,22 @@ use borrow.Author.Tests.{le-ltb, lt-ltb, le-leb, ne-eqb}
 use native.Mathlib.Omega.{arith}
 use Rattle.saved.specs.declared.Saved.{Saved}
 use Rattle.saved.specs.declared.Saved.the-variants as saving
+use Rattle.saved.specs.Editions.{Edition, edition1, edition2, editions, newest, hasForm}
 use Rattle.saved.specs.Saved.{saveOf}
-use Rattle.saved.specs.Shape.{shaped}
-use Rattle.saved.specs.Written.{longest, savedOf, savedOut}
+use Rattle.saved.specs.Shape.{namedIn, shaped}
+use Rattle.saved.specs.Written.{longest, savedAsOf, savedAsOut, savedOf, savedOut}
+use Rattle.saved.proofs.Allowed as allowed
+use Rattle.saved.proofs.Lawful as lawful
 use Rattle.saved.proofs.Frames as saved-frames
+use Rattle.saved.proofs.save_as.Reads as save-as-contract
 use Rattle.saved.proofs.save.Reads as save-contract
 use Rattle.shapes.specs.declared.Shape.{Shape}
-use Rattle.shapes.specs.Walk.{freshShape, walked, isShaped}
+use Rattle.shapes.specs.Walk.{freshShape, walkedFor, walked, isShaped, AtOnce}
+use Rattle.shapes.proofs.Next as readers
 use Rattle.shapes.proofs.Told as shapes
+use Rattle.shapes.proofs.Named as named
 use Rattle.loads.specs.Loads.{loaded, loadOf}
-use Rattle.loads.specs.Statements.{LoadsExactly, NoFrameExactly, IllFormedExactly, LoadsOrRefuses, GivesBack, OneEach}
+use Rattle.loads.specs.Statements.{Finds, LoadsExactly, NoFrameExactly, IllFormedExactly, LoadsOrRefuses, UnknownIsRefused, GivesBackIn, GivesBack, OneEach, MeansTheSame, OverIsRefused, OldRefusesNew}
 use Rattle.loads.proofs.Loads as loads
 use Rattle.loads.proofs.load.Reads as load-contract
 use Rattle.promises.specs.Runs.{LeadsTo, FromFresh}
@@ -463,36 +469,71 @@ unfolding savedOf savedOut
 an-ill-formed-record-is-not c out w = (rw w, rw w)
 
 pub no-saved-form-is-longer : (c : Cluster) → Fits c → wellFormed c ≡ true → length (saveOf c) ≤ longest
-no-saved-form-is-longer = saved-frames.saved-length
+unfolding saveOf
+no-saved-form-is-longer c f w = saved-frames.saved-length c f w newest refl
 
--- what a text loads to, or is refused with, is decided by the saved form and the shape
+-- in an edition that is known a record is saved where that has a form for it, and the newest has one for every well-formed record
+pub save-as-is : (κs : Lfts 1) (n : ℕ) (c : Cluster) (out o : RefT (List ℕ)) (r : Saved) → save-as-contract.Learnt κs (n, (c, (out, tt))) r (n, (c, (o, tt)))
+    → (r ≡ savedAsOf n c (length (now out))) × (now o ≡ savedAsOut n c (now out))
+save-as-is κs n c out o r e = e
+
+pub the-newest-has-a-form : (c : Cluster) → hasForm newest c ≡ wellFormed c
+the-newest-has-a-form = allowed.newest-form
+
+-- what a text loads to, or is refused with, is decided by its edition, the saved form there and the shape
 pub load-is : (κs : Lfts 1) (c : Cluster) (text : RefT (List ℕ)) (r : Outcome) → load-contract.Learnt κs (c, (text, tt)) r (c, (text, tt)) → r ≡ loadOf c (now text)
 load-is κs c text r e = e
 
-pub loads-exactly : LoadsExactly
-loads-exactly = loads.loads-exactly
+pub loads-exactly : LoadsExactly editions
+loads-exactly = loads.loads-exactly editions readers.reads-all
 
-pub refused-with-1-exactly : NoFrameExactly
-refused-with-1-exactly = loads.no-frame-exactly
+pub refused-with-1-exactly : NoFrameExactly editions
+refused-with-1-exactly = loads.no-frame-exactly editions readers.reads-all
 
-pub refused-with-2-exactly : IllFormedExactly
-refused-with-2-exactly = loads.ill-formed-exactly
+pub refused-with-2-exactly : IllFormedExactly editions
+refused-with-2-exactly = loads.ill-formed-exactly editions readers.reads-all
 
-pub loads-or-refuses : LoadsOrRefuses
-loads-or-refuses = loads.loads-or-refuses
+pub loads-or-refuses : LoadsOrRefuses editions
+loads-or-refuses = loads.loads-or-refuses editions readers.reads-all
+
+pub an-unknown-edition-is-refused : UnknownIsRefused editions
+an-unknown-edition-is-refused = loads.unknown-is-refused editions readers.reads-all
 
 pub reading-gives-back : GivesBack
 reading-gives-back = loads.gives-back
 
-pub one-saved-form-each : OneEach
-one-saved-form-each = loads.one-each
+pub in-each-edition : GivesBackIn editions
+in-each-edition = loads.gives-back-in editions readers.reads-all
+
+pub both-are-found : Finds editions edition1 × Finds editions edition2
+both-are-found = (loads.finds-1, loads.finds-2)
+
+pub one-saved-form-each : OneEach edition1 × OneEach edition2
+one-saved-form-each = (loads.one-each edition1 lawful.lawful1 (omega arith), loads.one-each edition2 lawful.lawful1 (omega arith))
+
+-- edition 1 means what it meant, and a reader of edition 1 alone is as exact, and refuses edition 2 in its first line, whatever follows
+pub edition-1-means-the-same : MeansTheSame
+edition-1-means-the-same = loads.means-the-same
+
+pub old-loads-exactly : LoadsExactly (edition1 ∷ [])
+old-loads-exactly = loads.loads-exactly (edition1 ∷ []) readers.reads-old
+
+pub over-edition-1-is-refused : OverIsRefused
+over-edition-1-is-refused = loads.over-is-refused
+
+pub old-refuses-new : OldRefusesNew
+old-refuses-new = loads.old-refuses-new
+
+pub in-its-first-line : (line rest : List ℕ) → ((i : ℕ) → i < length line → getD line i 0 ≢ lineFeed) → namedIn line ≡ edition2 .number
+    → AtOnce (walkedFor (edition1 ∷ []) freshShape (line ++ (lineFeed ∷ rest)))
+in-its-first-line line rest h n = named.unknown-at-once (edition1 ∷ []) readers.reads-old line rest h (rw n)
 
 -- the shape is told in whatever pieces the text arrives
 pub the-shape-is-told : (text : List ℕ) → isShaped (walked freshShape text) ≡ shaped text
 the-shape-is-told = shapes.told
 
 pub in-any-pieces : (s : Shape) (x y : List ℕ) → walked s (x ++ y) ≡ walked (walked s x) y
-in-any-pieces = shapes.walked-append
+in-any-pieces = shapes.walked-append editions
 
 -- what is saved of a record that comes from fresh loads, and gives it back; a text over it is answered as if it had come at once
 pub a-saving-gives-back : (c d : Cluster) → FromFresh c → loadOf d (saveOf c) ≡ loaded c

@@ -26,7 +26,7 @@ use Rattle.steps.specs.Reasons.{Clear, Broken, here, later}
 use Rattle.steps.proofs.Decided.{decided-clear, decided-broken}
 use Rattle.saved.specs.Editions.{Edition, edition1, edition2, editions, newest, isKnown, numbered, allows, hasForm}
 use Rattle.saved.specs.Saved.{savedAs, saveOf}
-use Rattle.saved.specs.Shape.{numberIn, numberOf, shapedFirst, shapedFor}
+use Rattle.saved.specs.Shape.{namedIn, namedBy, shapedFirst, shapedFor}
 use Rattle.saved.proofs.Lawful.{Lawful, numbered-is}
 use Rattle.saved.proofs.Allowed.{newest-form}
 use Rattle.shapes.proofs.Next.{Reads, reads-all, reads-old}
@@ -53,11 +53,11 @@ refusals-apart c e =
 
 -- ---- a text that passes is a saved form, and a saved form of that shape passes
 
-pub shaped-known : (knows : List Edition) (text : List ℕ) → shapedFor knows text ≡ true → isKnown knows (numberOf text) ≡ true
+pub shaped-known : (knows : List Edition) (text : List ℕ) → shapedFor knows text ≡ true → isKnown knows (namedBy text) ≡ true
 unfolding shapedFor
 shaped-known knows text h = go (lines text) (and-right (eqb (getD text (length text - 1) 0) lineFeed) _ h)
   where
-    go : (ls : List (List ℕ)) → shapedFirst knows ls ≡ true → isKnown knows (numberIn (getD ls 0 [])) ≡ true
+    go : (ls : List (List ℕ)) → shapedFirst knows ls ≡ true → isKnown knows (namedIn (getD ls 0 [])) ≡ true
     go [] e = not-both false e refl
     go (l ∷ ls) e = and-left _ _ e
 
@@ -65,7 +65,7 @@ allowed : (d : Cluster) → hasForm edition1 d ≡ true → allows edition1 d �
 unfolding hasForm
 allowed d h = and-right (wellFormed d) _ h
 
-form-formed : (e : Edition) (d : Cluster) → hasForm e d ≡ true → wellFormed d ≡ true
+pub form-formed : (e : Edition) (d : Cluster) → hasForm e d ≡ true → wellFormed d ≡ true
 unfolding hasForm
 form-formed e d h = and-left _ _ h
 
@@ -74,7 +74,7 @@ module _ (knows : List Edition) (r : Reads knows) where
     is-saved : Clear (loadRules knows text) → IsSaved (editionOf knows text) (decoded knows text) text
     is-saved k =
         record {
-          fits = fits-decoded (r (numberOf text)) text;
+          fits = fits-decoded (r (namedBy text)) text;
           form = k .1 .0;
           saves = same-text (savedAs (editionOf knows text) (decoded knows text)) text (k .1 .1 .0);
         }
@@ -83,9 +83,9 @@ module _ (knows : List Edition) (r : Reads knows) where
       saved-back : decoded knows text ≡ d
       saved-back =
           let e = editionOf knows text in
-          let named : e .number ≡ numberOf text = numbered-is knows (numberOf text) (shaped-known knows text shape) in
+          let named : e .number ≡ namedBy text = numbered-is knows (namedBy text) (shaped-known knows text shape) in
           ap (decodedIn (e .widths)) (sym (s .saves))
-          ∙ saved-decoded e (r (numberOf text)) (omega (arith, byte-below (bytesOf (getD (lines text) 0 [])) (bytes-below (getD (lines text) 0 [])) 1)) d (s .fits) (form-formed e d (s .form))
+          ∙ saved-decoded e (r (namedBy text)) (omega (arith, byte-below (bytesOf (getD (lines text) 0 [])) (bytes-below (getD (lines text) 0 [])) 1)) d (s .fits) (form-formed e d (s .form))
 
       saved-clear : Clear (loadRules knows text)
       saved-clear = (
@@ -224,11 +224,11 @@ loadBy c text shape e =
     let d = decodedIn (e .widths) text in
     decided (refusingAll c) (loaded d) ((shape, NotAFrame) ∷ (hasForm e d, IllFormed) ∷ (sameText (savedAs e d) text, IllFormed) ∷ [])
 
-same-shape : (text : List ℕ) → numberOf text ≡ 1 → shapedFor editions text ≡ shapedFor (edition1 ∷ []) text
+same-shape : (text : List ℕ) → namedBy text ≡ 1 → shapedFor editions text ≡ shapedFor (edition1 ∷ []) text
 unfolding shapedFor
 same-shape text n = ap (λ (b : Bool). eqb (getD text (length text - 1) 0) lineFeed && b) (go (lines text) n)
   where
-    go : (ls : List (List ℕ)) → numberIn (getD ls 0 []) ≡ 1 → shapedFirst editions ls ≡ shapedFirst (edition1 ∷ []) ls
+    go : (ls : List (List ℕ)) → namedIn (getD ls 0 []) ≡ 1 → shapedFirst editions ls ≡ shapedFirst (edition1 ∷ []) ls
     go [] m = refl
     go (l ∷ ls) m = rw m
 

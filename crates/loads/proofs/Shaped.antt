@@ -35,7 +35,7 @@ use Rattle.saved.specs.declared.Sort.the-variants as S
 use Rattle.saved.specs.Layout.{Widths, sortNumber, sizeOf, frame, numbersIn, usedNotes, serverNumbers, entryNumbers, toldNumbers, firstFrame, serverFrame, entryFrame, reportFrame, noteFrame}
 use Rattle.saved.specs.Editions.{Edition, isKnown, numbered}
 use Rattle.saved.specs.Saved.{noteFrames, queuedReports, serverFrames, allFrames, framesOf, savedAs}
-use Rattle.saved.specs.Shape.{isFrame, announced, shapedBy, numberIn, numberOf, shapedFirst, shapedFor}
+use Rattle.saved.specs.Shape.{isFrame, announced, shapedBy, namedIn, namedBy, shapedFirst, shapedFor}
 use Rattle.saved.proofs.Texts.{AllBytes, all-none, all-more, text-lines, text-ends}
 use Rattle.saved.proofs.Fields.{written-size, said-written}
 use Rattle.saved.proofs.Lawful.{Lawful}
@@ -184,12 +184,12 @@ module _ (e : Edition) (l : Lawful (e .widths)) (b : e .number < byte) (c : Clus
       first-of : {x : List ℕ} {xs : List (List ℕ)} → AllBytes (x ∷ xs) → bytesOf (hexOf x) ≡ x
       first-of {x} (all-more p ps) = bytes-hex x p
 
-  first-named : numberIn (hexOf first-frame) ≡ e .number
+  first-named : namedIn (hexOf first-frame) ≡ e .number
   first-named = ap (λ (x : List ℕ). byteAt x 1) first-bytes ∙ l .first-byte (e .number) (c .count)
 
   -- it names its edition
-  pub saved-named : numberOf (savedAs e c) ≡ e .number
-  saved-named = ap (λ (ls : List (List ℕ)). numberIn (getD ls 0 [])) saved-lines ∙ first-named
+  pub saved-named : namedBy (savedAs e c) ≡ e .number
+  saved-named = ap (λ (ls : List (List ℕ)). namedIn (getD ls 0 [])) saved-lines ∙ first-named
 
   frames-shaped : shapedBy (e .widths) (S.First ∷ []) (hexOf first-frame ∷ map hexOf all) ≡ true
   frames-shaped =

@@ -13,7 +13,7 @@ use Rattle.steps.specs.declared.Refusal.the-variants.{NotAFrame, IllFormed}
 use Rattle.steps.specs.Answers.{refusingAll}
 use Rattle.saved.specs.Editions.{Edition, edition1, edition2, isKnown, numbered, allows, hasForm}
 use Rattle.saved.specs.Saved.{savedAs, saveOf}
-use Rattle.saved.specs.Shape.{numberOf, shapedFor}
+use Rattle.saved.specs.Shape.{namedBy, shapedFor}
 use Rattle.loads.specs.Loads.{loaded, editionOf, loadFor, loadOf}
 
 -- a text is the saved form of a record in an edition
@@ -56,7 +56,7 @@ module _ (knows : List Edition) where
 
   -- a text of an edition that isn't known is refused with 1, by what its first line says
   abbrev pub UnknownIsRefused : Type 0
-  UnknownIsRefused = (c : Cluster) (text : List ℕ) → isKnown knows (numberOf text) ≡ false → loadFor knows c text ≡ refusingAll c NotAFrame
+  UnknownIsRefused = (c : Cluster) (text : List ℕ) → isKnown knows (namedBy text) ≡ false → loadFor knows c text ≡ refusingAll c NotAFrame
 
   -- reading gives back exactly the record that was saved in an edition that it knows
   abbrev pub GivesBackIn : Type 0
@@ -74,7 +74,7 @@ OneEach e = (c d : Cluster) → Fits c → hasForm e c ≡ true → Fits d → h
 
 -- edition 1 means what it meant: over its texts a reader of both gives what a reader of edition 1 alone gives
 abbrev pub MeansTheSame : Type 0
-MeansTheSame = (c : Cluster) (text : List ℕ) → numberOf text ≡ edition1 .number → loadOf c text ≡ loadFor (edition1 ∷ []) c text
+MeansTheSame = (c : Cluster) (text : List ℕ) → namedBy text ≡ edition1 .number → loadOf c text ≡ loadFor (edition1 ∷ []) c text
 
 -- a record that edition 1 doesn't allow, written there all the same, is refused with 2
 abbrev pub OverIsRefused : Type 0
@@ -82,4 +82,4 @@ OverIsRefused = (c d : Cluster) → Fits d → wellFormed d ≡ true → allows 
 
 -- a reader of edition 1 alone refuses all texts of edition 2 with 1
 abbrev pub OldRefusesNew : Type 0
-OldRefusesNew = (c : Cluster) (text : List ℕ) → numberOf text ≡ edition2 .number → loadFor (edition1 ∷ []) c text ≡ refusingAll c NotAFrame
+OldRefusesNew = (c : Cluster) (text : List ℕ) → namedBy text ≡ edition2 .number → loadFor (edition1 ∷ []) c text ≡ refusingAll c NotAFrame

@@ -1,6 +1,6 @@
 // Saved texts, loaded and saved again: standard input has the cases. A line that begins with # is only written; one that begins with =
 // names a case, and its saved text is all that follows up to the next such line, without its last line feed where it begins with =-.
-// Each is written with its answer line, a record that was loaded with whether it saves to that very text, and a refusal with whether the
+// Each is written with its answer line, a record that was loaded with whether it saves to that very text in the text's edition, and a refusal with whether the
 // record that was given is kept. `stdout` has what docs/SAVED.md gives, worked out by hand.
 use cluster::Cluster;
 use libc::STDIN_FILENO;
@@ -23,10 +23,19 @@ fn wrote_same(out: &[u8], n: usize, text: &[u8]) -> bool {
     loads::same_text(&out[..n], text)
 }
 
-// Whether the record saves to the text, because that tells it from every other.
+// The edition that a text names, 0 where it is too short for that.
+fn edition_of(text: &[u8]) -> u8 {
+    let mut b = [0u8; 2];
+    if 4 <= text.len() {
+        hex::unhex(&text[0..4], &mut b);
+    }
+    b[1]
+}
+
+// Whether the record saves to the text in the text's edition, because that tells it from every other.
 fn saves_to(c: Cluster, text: &[u8]) -> bool {
     let mut out = [0; saved::LONGEST];
-    let s = saved::save(c, &mut out);
+    let s = saved::save_as(edition_of(text), c, &mut out);
     let Saved::Text(n) = s else {
         return false;
     };
@@ -42,7 +51,7 @@ fn given() -> Cluster {
 fn is_given(c: Cluster) -> bool {
     saves_to(
         c,
-        b"000102\n0100000000000000000000000100000000\n0100000000000000000000000100000000\n",
+        b"000202\n0100000000000000000000000100000000\n0100000000000000000000000100000000\n",
     )
 }
 

@@ -11,7 +11,7 @@ use Rattle.base.specs.Numbers.{every}
 use Rattle.base.proofs.Bools.{and-both, and-left, and-right}
 use Rattle.base.proofs.Every.{every-at, every-all}
 use Rattle.log.specs.Logs.{logLimit, highestPosition, kept}
-use Rattle.log.specs.Order.{logOk}
+use Rattle.log.specs.Order.{isEmptyLog, logOk}
 use Rattle.mail.specs.declared.Report.{Report}
 use Rattle.mail.specs.declared.Note.{Note}
 use Rattle.mail.specs.declared.Mail.{Mail}
@@ -60,12 +60,12 @@ server-allowed s count i short h =
     and-both _ _ (le-leb (length (kept (s .log))) logLimit (omega (arith, length-take (s .log .len) (s .log .entries)))) (and-both _ _ (notes-short count i (s .mail) h) (reports-short count i (s .mail) h))
 
 ok-allowed : (n i : ℕ) (s : Server) → serverOk n i s ≡ true → allowsServer newest s ≡ true
-unfolding serverOk countedOk logOk zeroOk
+unfolding serverOk countedOk logOk zeroOk isEmptyLog
 ok-allowed n i s h = go (ltb i n) h
   where
     go : (b : Bool) → cond b (countedOk s && mailOk n i (s .mail)) (zeroOk s && mailOk 0 i (s .mail)) ≡ true → allowsServer newest s ≡ true
     go true h = server-allowed s n i (leb-true (s .log .len) logLimit (and-left _ _ (and-left _ _ (and-left _ _ h)))) (and-right (countedOk s) _ h)
-    go false h = server-allowed s 0 i (omega (arith, eqb-true (s .log .len) 0 (and-left _ _ (and-left _ _ h)))) (and-right (zeroOk s) _ h)
+    go false h = server-allowed s 0 i (omega (arith, eqb-true (s .log .len) 0 (and-left _ _ (and-left _ _ (and-left _ _ h))))) (and-right (zeroOk s) _ h)
 
 -- ---- the record
 

@@ -16,7 +16,7 @@ use Rattle.clock.specs.Times.{isBefore}
 use Rattle.hex.specs.Lines.{chars, bytesOf}
 use Rattle.hex.proofs.Trips.{Bytes}
 use Rattle.log.specs.Entries.{zeroEntry, appliedTime}
-use Rattle.log.specs.Logs.{logLimit, kept, live}
+use Rattle.log.specs.Logs.{logLimit, kept, live, lengthOf}
 use Rattle.log.specs.Order.{logOk}
 use Rattle.mail.specs.declared.Note.{Note}
 use Rattle.mail.specs.Reports.{zeroReport, zeroNote}
@@ -144,7 +144,7 @@ counted-small n i {s} seven h m =
       entries = short;
       reports = leb-true (s .mail .queue .len) queueLimit (and-left _ _ (and-left _ _ told));
       source = omega (arith, source-good {i = i} (and-right (queueOk n (s .mail .queue)) _ told) .within);
-      commit = omega (arith, leb-true (s .head .commit) (s .log .len) (and-left _ _ numbers));
+      commit = omega (arith, leb-true (s .head .commit) (lengthOf (s .log)) (and-left _ _ numbers), length-take (s .log .len) (s .log .entries));
     }
 
 module _ (c : Cluster) (h : wellFormed c ≡ true) where

@@ -34,17 +34,17 @@ shapedBy w (s ∷ ss) [] = false
 shapedBy w (s ∷ ss) (l ∷ ls) = isFrame w s l && shapedBy w (announced w s (bytesOf l) ++ ss) ls
 
 -- the edition that a first line names, in its second byte whatever the edition
-abbrev pub numberIn : List ℕ → ℕ
-numberIn line = byteAt (bytesOf line) 1
+abbrev pub namedIn : List ℕ → ℕ
+namedIn line = byteAt (bytesOf line) 1
 
 -- the edition that a text names
-abbrev pub numberOf : List ℕ → ℕ
-numberOf text = numberIn (getD (lines text) 0 [])
+abbrev pub namedBy : List ℕ → ℕ
+namedBy text = namedIn (getD (lines text) 0 [])
 
 -- the first line is a first frame of an edition that is known, and all are frames of that edition
 abbrev pub shapedFirst : List Edition → List (List ℕ) → Bool
 shapedFirst knows [] = false
-shapedFirst knows (l ∷ ls) = isKnown knows (numberIn l) && shapedBy (numbered knows (numberIn l) .widths) (S.First ∷ []) (l ∷ ls)
+shapedFirst knows (l ∷ ls) = isKnown knows (namedIn l) && shapedBy (numbered knows (namedIn l) .widths) (S.First ∷ []) (l ∷ ls)
 
 -- the last line ends in a line feed
 unfoldable pub shapedFor : List Edition → List ℕ → Bool

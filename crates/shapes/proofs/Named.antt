@@ -3,10 +3,12 @@
 use mathlib.Core.Path.{_≡_, refl, sym, ap, subst, _∙_}
 use mathlib.Core.Bool.{Bool, true, false, cond, not, _&&_}
 use mathlib.Core.List.{List, [], _∷_, _++_, append-assoc, append-nil}
-use Prim.Native.Nat.{ℕ}
-use borrow.Author.Tests.{eqb-true, eqb-false}
+use mathlib.Core.Logic.{_≢_}
+use Prim.Native.Nat.{ℕ, suc, _<_}
+use native.Mathlib.Omega.{arith}
+use borrow.Author.Tests.{eqb-true, eqb-false, ne-eqb}
 use lib.Dec.{eqb}
-use lib.ListN.{getD}
+use lib.ListN.{length, getD}
 use Rattle.base.proofs.Bools.{and-right, not-both}
 use Rattle.hex.specs.Lines.{bytesOf}
 use Rattle.words.specs.Words.{byteAt}
@@ -17,12 +19,12 @@ use Rattle.lines.proofs.Lines.{Plain, none, more, plain-snoc, line-first}
 use Rattle.saved.specs.declared.Sort.the-variants as S
 use Rattle.saved.specs.Layout.{Widths}
 use Rattle.saved.specs.Editions.{Edition, isKnown, numbered}
-use Rattle.saved.specs.Shape.{isFrame, numberIn, numberOf}
+use Rattle.saved.specs.Shape.{isFrame, namedIn, namedBy}
 use Rattle.shapes.specs.declared.Left.{Left}
 use Rattle.shapes.specs.declared.Shape.{Shape}
 use Rattle.shapes.specs.declared.Due.{Due}
 use Rattle.shapes.specs.declared.Due.the-variants.{Frame}
-use Rattle.shapes.specs.Walk.{keptChars, frameReader, framePush, freshShape, dueOf, editionFor, shapeHeld, withReader, shapePush, brokenAt, nextLine, isNext, endedAs, lineEndedFor, shapeAfter, walkedFor, isEnd, isShaped}
+use Rattle.shapes.specs.Walk.{keptChars, frameReader, framePush, freshShape, dueOf, editionFor, shapeHeld, withReader, shapePush, brokenAt, nextLine, isNext, endedAs, lineEndedFor, shapeAfter, walkedFor, isEnd, isShaped, AtOnce}
 use Rattle.shapes.proofs.Next.{Reads, StandsFor, held-next, held-bytes}
 use Rattle.shapes.proofs.Ahead.{Tells, first, over, next, tells}
 use Rattle.shapes.proofs.Told.{after-broken, after-feed, after-character, broken-stays, broken-told}
@@ -69,7 +71,7 @@ first-due l e = rw e
 
 module _ (knows : List Edition) (r : Reads knows) where
   abbrev Names : List ℕ → List ℕ → Shape → Type 0
-  Names p text s = isShaped (walkedFor knows s text) ≡ true → walkedFor knows s text .left .edition ≡ numberIn (getD (lines p) 0 [])
+  Names p text s = isShaped (walkedFor knows s text) ≡ true → walkedFor knows s text .left .edition ≡ namedIn (getD (lines p) 0 [])
 
   -- at a line feed after the characters p
   feed-names : (s : Shape) (p text whole : List ℕ) → s .left .begun ≡ false → StandsFor s p → getD (lines whole) 0 [] ≡ p → Names whole text (endedAs knows (Frame S.First) s)
@@ -107,15 +109,14 @@ module _ (knows : List Edition) (r : Reads knows) where
           (onward (withReader s (frameReader held fill over)) (p ++ (c ∷ [])) b f (plain-snoc c q e) x)) h)
 
   -- THE LAW
-  pub named : (text : List ℕ) → isShaped (walkedFor knows freshShape text) ≡ true → walkedFor knows freshShape text .left .edition ≡ numberOf text
+  pub named : (text : List ℕ) → isShaped (walkedFor knows freshShape text) ≡ true → walkedFor knows freshShape text .left .edition ≡ namedBy text
   named text t = names text freshShape [] refl refl none (empty-stands refl refl) t
 
 -- ---- one that isn't known
 
--- broken in its first line
-pub record AtOnce (s : Shape) : Type 0 where
-  pub broken : s .broken ≡ true
-  pub line : s .number ≡ 1
+plain-line : (line : List ℕ) → ((i : ℕ) → i < length line → getD line i 0 ≢ lineFeed) → Plain line
+plain-line [] h = none
+plain-line (b ∷ line) h = more (ne-eqb b lineFeed (h 0 (omega arith))) (plain-line line (λ i l. h (suc i) (omega arith)))
 
 module _ (knows : List Edition) (r : Reads knows) where
   -- a shape in its first line
@@ -124,13 +125,13 @@ module _ (knows : List Edition) (r : Reads knows) where
     pub begun : s .left .begun ≡ false
     pub line : s .number ≡ 1
 
-  unknown-from : (q rest : List ℕ) (s : Shape) (p : List ℕ) → InFirst s → StandsFor s p → Plain q → isKnown knows (numberIn (p ++ q)) ≡ false
+  unknown-from : (q rest : List ℕ) (s : Shape) (p : List ℕ) → InFirst s → StandsFor s p → Plain q → isKnown knows (namedIn (p ++ q)) ≡ false
       → AtOnce (walkedFor knows s (q ++ (lineFeed ∷ rest)))
   unfolding framePush endedAs isNext
   unknown-from [] rest s p i h pl u = subst AtOnce (sym (ap (λ (x : Shape). walkedFor knows x rest) step ∙ broken-stays knows (brokenAt s) rest refl)) (record { broken = refl; line = i .line })
     where
       no : isNext knows S.First (s .left .edition) (shapeHeld s) ≡ false
-      no = held-next knows r S.First (s .left .edition) s h ∙ ap (λ (x : Bool). x && isFrame (numbered knows (numberIn p) .widths) S.First p) (ap (λ (x : List ℕ). isKnown knows (numberIn x)) (sym (append-nil p)) ∙ u)
+      no = held-next knows r S.First (s .left .edition) s h ∙ ap (λ (x : Bool). x && isFrame (numbered knows (namedIn p) .widths) S.First p) (ap (λ (x : List ℕ). isKnown knows (namedIn x)) (sym (append-nil p)) ∙ u)
 
       step : shapeAfter knows s lineFeed ≡ brokenAt s
       step = after-feed knows s lineFeed (i .whole) refl ∙ ap (λ (d : Due). endedAs knows d s) (first-due (s .left) (i .begun)) ∙ rw no
@@ -138,8 +139,9 @@ module _ (knows : List Edition) (r : Reads knows) where
       subst (λ (x : Shape). AtOnce (walkedFor knows x (q ++ (lineFeed ∷ rest)))) (sym (after-character knows s c (i .whole) (eqb-false c lineFeed e)))
       (push-holds keptChars frameReader (λ x. AtOnce (walkedFor knows (withReader s x) (q ++ (lineFeed ∷ rest)))) c
       (λ held fill over x. unknown-from q rest (withReader s (frameReader held fill over)) (p ++ (c ∷ [])) (record { whole = i .whole; begun = i .begun; line = i .line }) x pl
-      (ap (λ (w : List ℕ). isKnown knows (numberIn w)) (append-assoc p (c ∷ []) q) ∙ u)) h)
+      (ap (λ (w : List ℕ). isKnown knows (namedIn w)) (append-assoc p (c ∷ []) q) ∙ u)) h)
 
   -- THE LAW
-  pub unknown-at-once : (line rest : List ℕ) → Plain line → isKnown knows (numberIn line) ≡ false → AtOnce (walkedFor knows freshShape (line ++ (lineFeed ∷ rest)))
-  unknown-at-once line rest pl u = unknown-from line rest freshShape [] (record { whole = refl; begun = refl; line = refl }) (empty-stands refl refl) pl u
+  pub unknown-at-once : (line rest : List ℕ) → ((i : ℕ) → i < length line → getD line i 0 ≢ lineFeed) → isKnown knows (namedIn line) ≡ false
+      → AtOnce (walkedFor knows freshShape (line ++ (lineFeed ∷ rest)))
+  unknown-at-once line rest h u = unknown-from line rest freshShape [] (record { whole = refl; begun = refl; line = refl }) (empty-stands refl refl) (plain-line line h) u

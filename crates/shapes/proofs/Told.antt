@@ -19,7 +19,7 @@ use Rattle.saved.specs.declared.Sort.{Sort}
 use Rattle.saved.specs.declared.Sort.the-variants as S
 use Rattle.saved.specs.Layout.{Widths}
 use Rattle.saved.specs.Editions.{Edition, editions, isKnown, numbered}
-use Rattle.saved.specs.Shape.{isFrame, announced, shapedBy, numberIn, shapedFirst, shapedFor, shaped}
+use Rattle.saved.specs.Shape.{isFrame, announced, shapedBy, namedIn, shapedFirst, shapedFor, shaped}
 use Rattle.shapes.specs.declared.Left.{Left}
 use Rattle.shapes.specs.declared.Shape.{Shape}
 use Rattle.shapes.specs.declared.Due.{Due}
@@ -118,9 +118,9 @@ module _ (knows : List Edition) (r : Reads knows) where
       ap (λ (m : ℕ). isKnown knows m && isFrame (widthsAt m) k line) (later .edition n (bytesOf line)) ∙ ap (λ (x : Bool). x && isFrame (widthsAt n) k line) h
 
   first-next : (n : ℕ) (p : List ℕ) (ls : List (List ℕ))
-      → shapedFirst knows (p ∷ ls) ≡ (isNext knows S.First n p && shapedBy (widthsAt (numberIn p)) (announced (widthsAt (numberIn p)) S.First (bytesOf p) ++ []) ls)
+      → shapedFirst knows (p ∷ ls) ≡ (isNext knows S.First n p && shapedBy (widthsAt (namedIn p)) (announced (widthsAt (namedIn p)) S.First (bytesOf p) ++ []) ls)
   unfolding isNext
-  first-next n p ls = go (isKnown knows (numberIn p)) (isFrame (widthsAt (numberIn p)) S.First p) _
+  first-next n p ls = go (isKnown knows (namedIn p)) (isFrame (widthsAt (namedIn p)) S.First p) _
     where
       go : (x y z : Bool) → (x && (y && z)) ≡ ((x && y) && z)
       go true y z = refl
@@ -143,7 +143,7 @@ module _ (knows : List Edition) (r : Reads knows) where
       Goes : Bool → Type 0
       Goes t = isShaped (walkedFor knows (cond t (after (shapeHeld s)) (brokenAt s)) text) ≡ (closed text && expects knows (s .left) (p ∷ lines text))
 
-      left-first : expects knows (s .left) (p ∷ lines text) ≡ (isNext knows S.First n p && shapedBy (widthsAt (numberIn p)) (announced (widthsAt (numberIn p)) S.First (bytesOf p) ++ []) (lines text))
+      left-first : expects knows (s .left) (p ∷ lines text) ≡ (isNext knows S.First n p && shapedBy (widthsAt (namedIn p)) (announced (widthsAt (namedIn p)) S.First (bytesOf p) ++ []) (lines text))
       left-first = rw begun (first-next n p (lines text))
 
       go : (y : Bool) → isNext knows S.First n p ≡ y → Goes (isNext knows S.First n (shapeHeld s))
@@ -151,12 +151,12 @@ module _ (knows : List Edition) (r : Reads knows) where
           rw (held-next knows r S.First n s h ∙ y)
           (ap (λ (x : List ℕ). isShaped (walkedFor knows (after x) text)) (held-bytes knows r S.First n s h y)
           ∙ right (after p) [] b (λ e. next-known knows S.First n p y) none (empty-stands refl refl)
-          ∙ ap (λ (x : List Sort). closed text && shapedBy (widthsAt (numberIn p)) x (lines text)) (sym (append-nil (announced (widthsAt (numberIn p)) S.First (bytesOf p))))
-          ∙ sym (ap (λ (x : Bool). closed text && x) (left-first ∙ ap (λ (x : Bool). x && shapedBy (widthsAt (numberIn p)) (announced (widthsAt (numberIn p)) S.First (bytesOf p) ++ []) (lines text)) y)))
+          ∙ ap (λ (x : List Sort). closed text && shapedBy (widthsAt (namedIn p)) x (lines text)) (sym (append-nil (announced (widthsAt (namedIn p)) S.First (bytesOf p))))
+          ∙ sym (ap (λ (x : Bool). closed text && x) (left-first ∙ ap (λ (x : Bool). x && shapedBy (widthsAt (namedIn p)) (announced (widthsAt (namedIn p)) S.First (bytesOf p) ++ []) (lines text)) y)))
       go false y =
           rw (held-next knows r S.First n s h ∙ y)
           (broken-told knows (brokenAt s) text refl
-          ∙ sym (ap (λ (x : Bool). closed text && x) (left-first ∙ ap (λ (x : Bool). x && shapedBy (widthsAt (numberIn p)) (announced (widthsAt (numberIn p)) S.First (bytesOf p) ++ []) (lines text)) y) ∙ and-no (closed text) false refl))
+          ∙ sym (ap (λ (x : Bool). closed text && x) (left-first ∙ ap (λ (x : Bool). x && shapedBy (widthsAt (namedIn p)) (announced (widthsAt (namedIn p)) S.First (bytesOf p) ++ []) (lines text)) y) ∙ and-no (closed text) false refl))
   at-feed text right s p b known h (next k ks begun later e f) = go (isFrame (widthsAt n) k p) refl
     where
       n : ℕ

@@ -1,5 +1,6 @@
 -- A text byte by byte, for a reader that knows some editions: how many frames are still announced, and the line that is being read. Nobody has to
 -- believe this: by `told` it comes to `shapedFor`. Assumes nothing.
+use mathlib.Core.Path.{_≡_}
 use mathlib.Core.Bool.{Bool, true, false, cond, not, _&&_}
 use mathlib.Core.List.{List, [], _∷_, _++_}
 use Prim.Native.Nat.{ℕ, _-_, _*_}
@@ -148,3 +149,8 @@ isEnd End = true
 -- not broken, no line begun, nothing due
 unfoldable pub isShaped : Shape → Bool
 isShaped s = not (s .broken) && (nothingHeld (s .reader .fill) (s .reader .over) && isEnd (dueOf (s .left)))
+
+-- broken in the first line
+pub record AtOnce (s : Shape) : Type 0 where
+  pub broken : s .broken ≡ true
+  pub line : s .number ≡ 1

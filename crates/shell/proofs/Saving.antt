@@ -26,14 +26,18 @@ use Rattle.steps.specs.declared.Refusal.the-variants.{NotAFrame, IllFormed}
 use Rattle.steps.specs.Answers.{refusingAll}
 use Rattle.steps.proofs.Answer.{the-type}
 use Rattle.lines.specs.Texts.{together}
+use Rattle.saved.specs.Editions.{editions}
+use Rattle.saved.specs.Shape.{namedBy}
 use Rattle.saved.specs.Written.{longest}
+use Rattle.saved.proofs.Lawful.{both-same}
 use Rattle.saved.proofs.Frames.{saved-length}
 use Rattle.shapes.specs.declared.Shape.{Shape}
 use Rattle.shapes.specs.Walk.{walked}
+use Rattle.shapes.proofs.Next.{reads-all}
 use Rattle.shapes.proofs.Told.{walked-append}
-use Rattle.loads.specs.Loads.{loaded, loadOf}
+use Rattle.loads.specs.Loads.{loaded, editionOf, loadOf}
 use Rattle.loads.specs.Statements.{IsSaved}
-use Rattle.loads.proofs.Loads.{loads-exactly, loads-or-refuses}
+use Rattle.loads.proofs.Loads.{form-formed, loads-exactly, loads-or-refuses}
 use Rattle.lines.specs.declared.End.{End}
 use Rattle.lines.specs.declared.End.the-variants.{More, Input, CannotRead}
 use Rattle.shell.specs.declared.saves.Walked.{Walked}
@@ -94,7 +98,7 @@ walk-goes-on s w r turns buffer got g e h =
       pieces = g .pieces ++ (given got buffer ∷ []);
       shape =
           ap (λ (x : Walked). x .shape) e ∙ ap (λ (q : Shape). walked q (given got buffer)) (g .shape)
-          ∙ sym (walked-append s (together (g .pieces)) (given got buffer)) ∙ sym (ap (walked s) (together-more (g .pieces) (given got buffer)));
+          ∙ sym (walked-append editions s (together (g .pieces)) (given got buffer)) ∙ sym (ap (walked s) (together-more (g .pieces) (given got buffer)));
       none =
           λ n. let k = none-given got buffer (w .came) (sym (ap (λ (x : Walked). x .came) e) ∙ n) in
           together-more (g .pieces) (given got buffer) ∙ ap (λ (l : List ℕ). l ++ given got buffer) (g .none (k .0)) ∙ k .1;
@@ -149,7 +153,7 @@ refused-led text c o h z e n = sym (answered-led text c o h z e ∙ none-led (o 
 
 -- the program takes exactly the texts that load, and their records
 pub led-exactly : (d : Cluster) (text : List ℕ) → Fits d → (ledOf text ≡ led d) ↔ (loadOf zeroCluster text ≡ loaded d)
-led-exactly d text f = (to (ltb longest (length text)) refl (loads-or-refuses zeroCluster text), from)
+led-exactly d text f = (to (ltb longest (length text)) refl (loads-or-refuses editions reads-all zeroCluster text), from)
   where
     untrue : notLed ≡ led d → ⊥
     untrue e = not-both false (ap (λ (r : Led). r .well) e) refl
@@ -158,7 +162,7 @@ led-exactly d text f = (to (ltb longest (length text)) refl (loads-or-refuses ze
     short h o p e = ap (λ (x : Outcome). ledBy (x .cluster) (x .answer)) (sym p) ∙ sym (led-as text h) ∙ e
 
     to : (long : Bool) → ltb longest (length text) ≡ long
-        → (loadOf zeroCluster text ≡ refusingAll zeroCluster NotAFrame) ⊎ (loadOf zeroCluster text ≡ refusingAll zeroCluster IllFormed) ⊎ ((k : Cluster) × IsSaved k text × (loadOf zeroCluster text ≡ loaded k))
+        → (loadOf zeroCluster text ≡ refusingAll zeroCluster NotAFrame) ⊎ (loadOf zeroCluster text ≡ refusingAll zeroCluster IllFormed) ⊎ ((k : Cluster) × IsSaved (editionOf editions text) k text × (loadOf zeroCluster text ≡ loaded k))
         → ledOf text ≡ led d → loadOf zeroCluster text ≡ loaded d
     to true l way e = absurd (untrue (long-led text (ltb-true longest (length text) l) ∙ e))
     to false l (inl p) e = absurd (untrue (short (ltb-false longest (length text) l) _ p e))
@@ -167,8 +171,9 @@ led-exactly d text f = (to (ltb longest (length text)) refl (loads-or-refuses ze
 
     from : loadOf zeroCluster text ≡ loaded d → ledOf text ≡ led d
     from e =
-        let s = loads-exactly zeroCluster d text f .0 e in
-        led-as text (subst (λ (t : List ℕ). length t ≤ longest) (s .2) (saved-length d f (s .1)))
+        let s = loads-exactly editions reads-all zeroCluster d text f .0 e in
+        let formed = form-formed (editionOf editions text) d (s .1) in
+        led-as text (subst (λ (t : List ℕ). length t ≤ longest) (s .2) (saved-length d f formed (editionOf editions text) (both-same (namedBy text))))
         ∙ ap (λ (x : Outcome). ledBy (x .cluster) (x .answer)) e
 
 -- all that was read is the text that is taken: what came after it was nothing, or made it too long

@@ -1,4 +1,4 @@
-// The first thing in a text that no well-formed record has, in the order of the text, which has the shape of a saved form. It only chooses the
+// The first thing in a text that no record of its edition has, in the order of the text, which has the shape of a saved form. It only chooses the
 // words of a refusal that is decided before, so it is tested and not proved.
 use clock::Time;
 use cluster::Head;
@@ -9,6 +9,7 @@ use log::Entry;
 use mail::Report;
 use saved::ENTRY;
 use saved::FIRST;
+use saved::Limits;
 use saved::NOTE;
 use saved::SERVER;
 
@@ -61,10 +62,11 @@ pub(crate) enum Fault {
     Report(u8, OfTold),
 }
 
-// How far a text is walked: its lines, the server count, the server that was begun last and the next one, what was read of it (entries and the
+// How far a text is walked: its lines, its edition, the server count, the server that was begun last and the next one, what was read of it (entries and the
 // last one, notes and whose the last one is, reports), and what was found. Once something is found the walk stays there.
 pub(crate) struct Walk {
     pub line: usize,
+    pub edition: u8,
     pub count: usize,
     pub server: usize,
     pub next: usize,
@@ -80,6 +82,7 @@ pub(crate) struct Walk {
 fn begun() -> Walk {
     Walk {
         line: 0,
+        edition: 0,
         count: 0,
         server: 0,
         next: 0,
@@ -103,8 +106,12 @@ fn one_more(n: usize) -> usize {
     if n < usize::MAX { n + 1 } else { n }
 }
 
-fn counted(w: Walk, count: usize) -> Walk {
-    let c = Walk { count: count, ..w };
+fn counted(w: Walk, edition: u8, count: usize) -> Walk {
+    let c = Walk {
+        edition: edition,
+        count: count,
+        ..w
+    };
     if cluster::FEWEST_SERVERS <= count && count <= cluster::MOST_SERVERS {
         return c;
     }
@@ -144,11 +151,11 @@ fn head_fault(entries: usize, role: u8, h: Head) -> OfServer {
     OfServer::Nothing
 }
 
-fn server_fault(count: usize, server: usize, b: [u8; BYTES]) -> OfServer {
+fn server_fault(most: Limits, count: usize, server: usize, b: [u8; BYTES]) -> OfServer {
     let entries = words::word(b[1], b[2]) as usize;
     let notes = b[3] as usize;
     let reports = b[4] as usize;
-    if log::LOG_LIMIT < entries {
+    if most.entries < entries {
         return OfServer::Entries(entries);
     }
     if count < notes {
@@ -165,9 +172,10 @@ fn server_fault(count: usize, server: usize, b: [u8; BYTES]) -> OfServer {
 }
 
 fn with_server(w: Walk, b: [u8; BYTES]) -> Walk {
-    let f = server_fault(w.count, w.next, b);
+    let f = server_fault(saved::limits_of(w.edition), w.count, w.next, b);
     Walk {
         line: w.line,
+        edition: w.edition,
         count: w.count,
         server: w.next,
         next: one_more(w.next),
@@ -241,7 +249,7 @@ fn in_entry(f: OfEntry) -> Fault {
     }
 }
 
-fn told_fault(count: usize, r: Report) -> OfTold {
+fn told_fault(most: Limits, count: usize, r: Report) -> OfTold {
     if count <= r.who as usize {
         return OfTold::NoSuchServer;
     }
@@ -254,7 +262,7 @@ fn told_fault(count: usize, r: Report) -> OfTold {
     if r.len < 1 {
         return OfTold::NoLength;
     }
-    if log::HIGHEST_POSITION < r.len as usize {
+    if most.positions < r.len as usize {
         return OfTold::Length(r.len);
     }
     OfTold::Nothing
@@ -267,7 +275,7 @@ fn note_fault(w: Walk, r: Report) -> OfTold {
     if (r.who as usize) < w.count && mail::is_unused(mail::note_of(r)) {
         return OfTold::Zero;
     }
-    told_fault(w.count, r)
+    told_fault(saved::limits_of(w.edition), w.count, r)
 }
 
 fn with_note(w: Walk, r: Report) -> Walk {
@@ -288,7 +296,7 @@ fn in_note(who: u8, f: OfTold) -> Fault {
 }
 
 fn with_report(w: Walk, r: Report) -> Walk {
-    let f = told_fault(w.count, r);
+    let f = told_fault(saved::limits_of(w.edition), w.count, r);
     Walk {
         reports: one_more(w.reports),
         fault: in_report(r.who, f),
@@ -306,7 +314,7 @@ fn in_report(who: u8, f: OfTold) -> Fault {
 fn with_frame(w: Walk, b: [u8; BYTES]) -> Walk {
     let sort = b[0];
     match sort {
-        FIRST => counted(w, b[2] as usize),
+        FIRST => counted(w, b[1], b[2] as usize),
         SERVER => with_server(w, b),
         ENTRY => with_entry(w, loads::entry_in(b)),
         NOTE => with_note(w, loads::report_in(b)),

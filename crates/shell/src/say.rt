@@ -57,7 +57,7 @@ pub(crate) fn nothing_loaded(refusal: usize) {
 fn frame(s: Sort) {
     match s {
         Sort::First => say(
-            b"a first frame of edition 1: 6 characters 0-9 a-f that begin with 0001",
+            b"a first frame of edition 1 or 2: 6 characters 0-9 a-f that begin with 0001 or 0002",
         ),
         Sort::Server => say(b"a server: 34 characters 0-9 a-f that begin with 01"),
         Sort::Entry => say(b"an entry: 20 characters 0-9 a-f that begin with 02"),
@@ -81,10 +81,54 @@ fn due(d: Due, broken: bool) {
     say(b", and then a line feed\n");
 }
 
-// Refusal 1: the line and what was due there.
+// The edition that a line names where it begins as a first frame does, and whether that isn't known.
+struct Named {
+    edition: u8,
+    unknown: bool,
+}
+
+fn none_named() -> Named {
+    Named {
+        edition: 0,
+        unknown: false,
+    }
+}
+
+fn named_in(line: &[u8]) -> Named {
+    let mut b = [0u8; saved::FIRST_BYTES];
+    hex::unhex(line, &mut b);
+    let edition = b[1];
+    let first = hex::CHARS * 2 <= line.len() && hex::all_hex(line) && b[0] == saved::FIRST;
+    Named {
+        edition: edition,
+        unknown: first && !saved::is_known(edition),
+    }
+}
+
+// The same of the line that the shape is broken in, where that is the first.
+fn first_line(s: Shape) -> Named {
+    let n = s.reader.fill;
+    if shapes::MOST_CHARS < n {
+        return none_named();
+    }
+    if !s.broken || s.left.begun {
+        return none_named();
+    }
+    let r = s.reader;
+    let h = r.held;
+    named_in(&h[0..n])
+}
+
+// Refusal 1: the line and what was due there, or the edition that isn't known.
 pub(crate) fn misshapen(s: Shape) {
     nothing_loaded(1);
     number(b"line ", s.number);
+    let first = first_line(s);
+    if first.unknown {
+        number(b" names edition ", first.edition as usize);
+        say(b", which this program doesn't know: it is newer than the program, or there is none; editions 1 and 2 are known\n");
+        return;
+    }
     let broken = s.broken;
     due(shapes::expected(s), broken);
 }

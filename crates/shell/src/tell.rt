@@ -1,4 +1,4 @@
-// Refusal 2 in words: the line, the server, what stands there and what may. Numbers are decimal, limits are the constants.
+// Refusal 2 in words: the line, the server, what stands there and what may. Numbers are decimal, limits are the constants and the edition's.
 use crate::faults::Fault;
 use crate::faults::OfEntry;
 use crate::faults::OfServer;
@@ -17,7 +17,7 @@ pub(crate) fn ill_formed(w: Walk) {
         Fault::Count => count(w),
         Fault::Server(of) => {
             server(w);
-            of_server(w.count, of);
+            of_server(w.edition, w.count, of);
         }
         Fault::Entry(of) => {
             server(w);
@@ -27,13 +27,13 @@ pub(crate) fn ill_formed(w: Walk) {
         Fault::Note(who, of) => {
             server(w);
             number(b", note of server ", who as usize);
-            of_told(w.count, of);
+            of_told(w.edition, w.count, of);
         }
         Fault::Report(who, of) => {
             server(w);
             number(b", report ", w.reports);
             number(b" of server ", who as usize);
-            of_told(w.count, of);
+            of_told(w.edition, w.count, of);
         }
     }
     say(b"\n");
@@ -58,12 +58,13 @@ fn there_are(count: usize) {
     say(b" servers");
 }
 
-fn of_server(count: usize, of: OfServer) {
+fn of_server(edition: u8, count: usize, of: OfServer) {
     match of {
         OfServer::Nothing => (),
         OfServer::Entries(n) => {
             number(b": its log has ", n);
-            number(b" entries, and a log has at most ", log::LOG_LIMIT);
+            number(b" entries, but edition ", edition as usize);
+            number(b" has at most ", saved::limits_of(edition).entries);
         }
         OfServer::Notes(n) => {
             number(b": it has ", n);
@@ -129,7 +130,7 @@ fn key(n: usize) {
     say(b" where nothing is written");
 }
 
-fn of_told(count: usize, of: OfTold) {
+fn of_told(edition: u8, count: usize, of: OfTold) {
     match of {
         OfTold::Nothing => (),
         OfTold::NoSuchServer => {
@@ -149,7 +150,8 @@ fn of_told(count: usize, of: OfTold) {
         OfTold::NoLength => say(b": its length is 0, and should be at least 1"),
         OfTold::Length(n) => {
             number(b": its length is ", n as usize);
-            number(b", and the highest position is ", log::HIGHEST_POSITION);
+            number(b", but edition ", edition as usize);
+            number(b" has positions up to ", saved::limits_of(edition).positions);
         }
     }
 }

@@ -11,7 +11,7 @@ use Rattle.steps.specs.Answers.{refusingAll}
 use Rattle.saved.specs.Layout.{Widths}
 use Rattle.saved.specs.Editions.{widths1, editions, isKnown, numbered, hasForm}
 use Rattle.saved.specs.Saved.{savedAs}
-use Rattle.saved.specs.Shape.{numberOf, shaped}
+use Rattle.saved.specs.Shape.{namedBy, shaped}
 use Rattle.saved.proofs.Lawful.{both-same}
 use Rattle.shapes.specs.declared.Shape.{Shape}
 use Rattle.shapes.specs.Walk.{freshShape, walked, isShaped}
@@ -33,7 +33,7 @@ module _ {s t : Shape} (text : List ℕ) (q : t ≡ walked s text) (r : s ≡ fr
   tells : {b : Bool} → b ≡ isShaped t → b ≡ shaped text
   tells p = p ∙ ap isShaped whole ∙ told text
 
-  names : shaped text ≡ true → t .left .edition ≡ numberOf text
+  names : shaped text ≡ true → t .left .edition ≡ namedBy text
   names h = ap (λ (x : Shape). x .left .edition) whole ∙ named editions reads-all text (told text ∙ h)
 
 module _ (c : Cluster) (text : List ℕ) where
@@ -41,15 +41,15 @@ module _ (c : Cluster) (text : List ℕ) where
   unfolding loadFor
   no-shape e = rw e
 
-  by-text : {n : ℕ} {d : Cluster} {b : Bool} → shaped text ≡ true → n ≡ numberOf text → d ≡ decodedIn widths1 text
+  by-text : {n : ℕ} {d : Cluster} {b : Bool} → shaped text ≡ true → n ≡ namedBy text → d ≡ decodedIn widths1 text
       → b ≡ (isKnown editions n && (hasForm (numbered editions n) d && sameText (savedAs (numbered editions n) d) text)) → cond b (loaded d) (refusingAll c IllFormed) ≡ loadOf c text
   unfolding loadFor
   by-text {n} {d} {b} e m p f =
       ap (λ (x : Bool). cond x (loaded d) (refusingAll c IllFormed)) f
       ∙ ap (λ (k : ℕ). gives (isKnown editions k) k d) m
-      ∙ ap (λ (x : Bool). gives x (numberOf text) d) (shaped-known editions text e)
-      ∙ ap (gives true (numberOf text)) (p ∙ ap (λ (w : Widths). decodedIn w text) (sym (both-same (numberOf text))))
-      ∙ rw e (both (hasForm (numbered editions (numberOf text)) _) (sameText (savedAs (numbered editions (numberOf text)) _) text) (loaded _) (refusingAll c IllFormed))
+      ∙ ap (λ (x : Bool). gives x (namedBy text) d) (shaped-known editions text e)
+      ∙ ap (gives true (namedBy text)) (p ∙ ap (λ (w : Widths). decodedIn w text) (sym (both-same (namedBy text))))
+      ∙ rw e (both (hasForm (numbered editions (namedBy text)) _) (sameText (savedAs (numbered editions (namedBy text)) _) text) (loaded _) (refusingAll c IllFormed))
     where
       gives : Bool → ℕ → Cluster → Outcome
       gives x k y = cond (x && (hasForm (numbered editions k) y && sameText (savedAs (numbered editions k) y) text)) (loaded y) (refusingAll c IllFormed)
