@@ -11,7 +11,7 @@ use ghost.Atoms.{Atoms}
 use contract.Lifetimes.{Lfts}
 use contract.Monad.{Fun, fact}
 use denote.Ref.{RefT, now}
-use mathlib.Core.Path.{_≡_}
+use mathlib.Core.Path.{_≡_, refl}
 use mathlib.Core.Logic.{_⊎_, _≢_, _↔_}
 use mathlib.Core.Bool.{Bool, true, false, cond, _||_}
 use mathlib.Core.List.{List, [], _∷_, _++_, map}
@@ -109,7 +109,7 @@ use Rattle.replay.specs.declared.Finished.{Finished}
 use Rattle.replay.specs.declared.Session.{Session}
 use Rattle.replay.specs.Texts.{recordAfter, answers, leaves, answerTo}
 use Rattle.lines.specs.declared.Reader.{Reader}
-use Rattle.lines.specs.Texts.{together, placed, restAfter}
+use Rattle.lines.specs.Texts.{lineFeed, together, placed, restAfter}
 use Rattle.lines.specs.Held.{tooLong}
 use Rattle.lines.specs.Readers.{width, freshReader, lineHeld, pushOf, readerAfter, readerOver, readerFor}
 use Rattle.lines.proofs.take as take-contract
@@ -174,7 +174,7 @@ use Rattle.saved.proofs.save_as.Reads as save-as-contract
 use Rattle.saved.proofs.save.Reads as save-contract
 use Rattle.shapes.specs.declared.Shape.{Shape}
 use Rattle.shapes.specs.Walk.{freshShape, walkedFor, walked, isShaped, AtOnce}
-use Rattle.shapes.proofs.Next as readers
+use Rattle.shapes.proofs.Next as knowing
 use Rattle.shapes.proofs.Told as shapes
 use Rattle.shapes.proofs.Named as named
 use Rattle.loads.specs.Loads.{loaded, loadOf}
@@ -485,25 +485,25 @@ pub load-is : (κs : Lfts 1) (c : Cluster) (text : RefT (List ℕ)) (r : Outcome
 load-is κs c text r e = e
 
 pub loads-exactly : LoadsExactly editions
-loads-exactly = loads.loads-exactly editions readers.reads-all
+loads-exactly = loads.loads-exactly editions knowing.reads-all
 
 pub refused-with-1-exactly : NoFrameExactly editions
-refused-with-1-exactly = loads.no-frame-exactly editions readers.reads-all
+refused-with-1-exactly = loads.no-frame-exactly editions knowing.reads-all
 
 pub refused-with-2-exactly : IllFormedExactly editions
-refused-with-2-exactly = loads.ill-formed-exactly editions readers.reads-all
+refused-with-2-exactly = loads.ill-formed-exactly editions knowing.reads-all
 
 pub loads-or-refuses : LoadsOrRefuses editions
-loads-or-refuses = loads.loads-or-refuses editions readers.reads-all
+loads-or-refuses = loads.loads-or-refuses editions knowing.reads-all
 
 pub an-unknown-edition-is-refused : UnknownIsRefused editions
-an-unknown-edition-is-refused = loads.unknown-is-refused editions readers.reads-all
+an-unknown-edition-is-refused = loads.unknown-is-refused editions knowing.reads-all
 
 pub reading-gives-back : GivesBack
 reading-gives-back = loads.gives-back
 
 pub in-each-edition : GivesBackIn editions
-in-each-edition = loads.gives-back-in editions readers.reads-all
+in-each-edition = loads.gives-back-in editions knowing.reads-all
 
 pub both-are-found : Finds editions edition1 × Finds editions edition2
 both-are-found = (loads.finds-1, loads.finds-2)
@@ -516,7 +516,7 @@ pub edition-1-means-the-same : MeansTheSame
 edition-1-means-the-same = loads.means-the-same
 
 pub old-loads-exactly : LoadsExactly (edition1 ∷ [])
-old-loads-exactly = loads.loads-exactly (edition1 ∷ []) readers.reads-old
+old-loads-exactly = loads.loads-exactly (edition1 ∷ []) knowing.reads-old
 
 pub over-edition-1-is-refused : OverIsRefused
 over-edition-1-is-refused = loads.over-is-refused
@@ -526,7 +526,7 @@ old-refuses-new = loads.old-refuses-new
 
 pub in-its-first-line : (line rest : List ℕ) → ((i : ℕ) → i < length line → getD line i 0 ≢ lineFeed) → namedIn line ≡ edition2 .number
     → AtOnce (walkedFor (edition1 ∷ []) freshShape (line ++ (lineFeed ∷ rest)))
-in-its-first-line line rest h n = named.unknown-at-once (edition1 ∷ []) readers.reads-old line rest h (rw n)
+in-its-first-line line rest h n = named.unknown-at-once (edition1 ∷ []) knowing.reads-old line rest h (rw n)
 
 -- the shape is told in whatever pieces the text arrives
 pub the-shape-is-told : (text : List ℕ) → isShaped (walked freshShape text) ≡ shaped text
