@@ -100,7 +100,7 @@ unfolding every isBefore sameTime sameEntry entryAt inOrder restZero logOk numbe
 counted-wants-at-most-the-last-time = refl
 
 pub zero-without-the-time : zeroOk (server 0 false 0 0 (at 0 1) []) ≡ false
-unfolding every sameTime sameEntry restZero isEmptyLog zeroOk
+unfolding sameTime sameEntry restZero isEmptyLog zeroOk
 zero-without-the-time = refl
 
 pub server-ok-exchanges-the-cases : serverOk 2 0 freshServer ≡ true
@@ -108,7 +108,7 @@ unfolding every isBefore sameTime sameEntry entryAt inOrder restZero logOk isUnu
 server-ok-exchanges-the-cases = refl
 
 pub server-ok-counts-every-server : serverOk 2 2 freshServer ≡ false
-unfolding every sameTime sameEntry restZero isEmptyLog zeroOk serverOk
+unfolding sameTime sameEntry restZero isEmptyLog zeroOk serverOk
 server-ok-counts-every-server = refl
 
 pub server-ok-without-its-mail : serverOk 2 0 (withMail freshServer (withSource zeroMail 1)) ≡ false

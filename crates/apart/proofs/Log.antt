@@ -174,15 +174,15 @@ abbrev dirty : Log
 dirty = record { entries = replicate (logLimit - 1) zeroEntry ++ (entry 0 0 1 (at 0 0) ∷ []); len = 0 }
 
 pub uses-a-slot-past-the-length : restZero (claimed 0) 0 ≡ false
-unfolding every sameTime sameEntry restZero
+unfolding sameTime sameEntry restZero
 uses-a-slot-past-the-length = refl
 
 pub rest-by-terms-alone : restZero dirty 0 ≡ false
-unfolding every sameTime sameEntry restZero
+unfolding sameTime sameEntry restZero
 rest-by-terms-alone = refl
 
 pub empty-by-its-length-alone : isEmptyLog dirty ≡ false
-unfolding every sameTime sameEntry restZero isEmptyLog
+unfolding sameTime sameEntry restZero isEmptyLog
 empty-by-its-length-alone = refl
 
 pub empty-by-its-slots-alone : isEmptyLog (record { entries = replicate logLimit zeroEntry; len = 1 }) ≡ false
@@ -204,5 +204,5 @@ unfolding every isBefore sameTime sameEntry entryAt entryOk follows placeOk inOr
 log-ok-but-for-the-length = refl
 
 pub log-ok-without-the-slots : logOk 0 dirty ≡ false
-unfolding every sameTime sameEntry restZero logOk
+unfolding sameTime sameEntry restZero logOk
 log-ok-without-the-slots = refl

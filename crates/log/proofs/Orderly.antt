@@ -1,25 +1,24 @@
 -- A log that a well-formed record may hold, as facts: one for each clause of 01, and back. Assumes nothing.
 use mathlib.Core.Path.{_≡_, refl, ap, sym, _∙_}
-use mathlib.Core.List.{List}
+use mathlib.Core.List.{List, [], _∷_}
 use mathlib.Core.Bool.{true, false, _&&_, _||_}
 use mathlib.Core.Logic.{_⊎_, inl, inr, ⊎-elim}
-use Prim.Native.Nat.{ℕ, zero, suc, _<_, _≤_}
+use Prim.Native.Nat.{ℕ, zero, suc, _+_, _-_, _<_, _≤_}
 use native.Mathlib.Nat.{eq-or-lt-of-le, le-of-suc-le-suc}
 use native.Mathlib.Omega.{arith}
-use lib.Dec.{eqb, ltb, leb}
-use lib.ListN.{length, getD, take, replicate, length-replicate, getD-replicate, List·getD-eq-default}
-use lib.Seq.{ext-getD, length-take-le}
-use borrow.Author.Tests.{leb-true, le-leb, eqb-true, eq-eqb, ltb-true, lt-ltb}
+use lib.Dec.{eqb, leb}
+use lib.ListN.{length, getD, take, drop, replicate, length-replicate, getD-replicate}
+use lib.Seq.{ext-getD, getD-drop, length-take-le}
+use borrow.Author.Tests.{leb-true, le-leb, eqb-true, eq-eqb}
 use Rattle.base.proofs.Bools.{and-both, and-left, and-right, or-left, or-right, or-cases}
 use Rattle.base.proofs.Every.{every-at, every-all}
-use Rattle.base.proofs.Facts.{lt-or-le}
 use Rattle.clock.specs.Times.{isBefore}
 use Rattle.clock.proofs.Order.{before-itself, before-not-after, before-trans}
 use Rattle.log.specs.declared.Entry.{Entry}
 use Rattle.log.specs.declared.Log.{Log}
 use Rattle.log.specs.Entries.{zeroEntry, sameEntry, entryAt, appliedTime}
 use Rattle.log.specs.Logs.{logLimit, emptyLog, live}
-use Rattle.log.specs.Order.{highestKey, noKey, writesSome, entryOk, follows, placeOk, inOrder, restZero, isEmptyLog, logOk}
+use Rattle.log.specs.Order.{highestKey, noKey, writesSome, entryOk, follows, placeOk, inOrder, allZero, restZero, isEmptyLog, logOk}
 use Rattle.log.proofs.Equal.{sameEntry-eq, sameEntry-refl}
 use Rattle.log.proofs.Live.{entryAt-take}
 use Rattle.log.proofs.Tidy.{Tidy, tidy-empty}
@@ -130,25 +129,31 @@ orderly-first {term} {es} o k h =
 
 -- ---- the slots
 
-pub rest-is : (g : Log) (k : ℕ) → length (g .entries) ≡ logLimit → restZero g k ≡ true → (i : ℕ) → k ≤ i → getD (g .entries) i zeroEntry ≡ zeroEntry
-unfolding restZero
-rest-is g k s h i l =
-    ⊎-elim
-    (λ m. ⊎-elim (λ z. absurd (omega (arith, ltb-true i k z))) (sameEntry-eq _ zeroEntry) (or-cases (ltb i k) _ (every-at _ logLimit i h m)))
-    (λ m. List·getD-eq-default (g .entries) zeroEntry (omega arith)) (lt-or-le i logLimit)
+all-zero-at : (es : List Entry) → allZero es ≡ true → (i : ℕ) → getD es i zeroEntry ≡ zeroEntry
+all-zero-at [] h i = refl
+all-zero-at (e ∷ es) h zero = sameEntry-eq e zeroEntry (and-left _ _ h)
+all-zero-at (e ∷ es) h (suc i) = all-zero-at es (and-right (sameEntry e zeroEntry) _ h) i
 
-pub is-rest : (g : Log) (k : ℕ) → ((i : ℕ) → k ≤ i → getD (g .entries) i zeroEntry ≡ zeroEntry) → restZero g k ≡ true
+each-zero : (es : List Entry) → ((i : ℕ) → getD es i zeroEntry ≡ zeroEntry) → allZero es ≡ true
+each-zero [] z = refl
+each-zero (e ∷ es) z = and-both _ _ (ap (λ (d : Entry). sameEntry d zeroEntry) (z 0) ∙ sameEntry-refl zeroEntry) (each-zero es (λ i. z (suc i)))
+
+rest-is : (g : Log) (k : ℕ) → restZero g k ≡ true → (i : ℕ) → k ≤ i → getD (g .entries) i zeroEntry ≡ zeroEntry
 unfolding restZero
-is-rest g k z =
-    every-all _ logLimit
-    (λ i l. ⊎-elim (λ m. or-left _ _ (lt-ltb i k m)) (λ m. or-right (ltb i k) _ (ap (λ (e : Entry). sameEntry e zeroEntry) (z i m) ∙ sameEntry-refl zeroEntry)) (lt-or-le i k))
+rest-is g k h i l =
+    let e : i ≡ k + (i - k) = omega arith in
+    ap (λ (j : ℕ). getD (g .entries) j zeroEntry) e ∙ sym (getD-drop k (g .entries) (i - k) zeroEntry) ∙ all-zero-at (drop k (g .entries)) h (i - k)
+
+is-rest : (g : Log) (k : ℕ) → ((i : ℕ) → k ≤ i → getD (g .entries) i zeroEntry ≡ zeroEntry) → restZero g k ≡ true
+unfolding restZero
+is-rest g k z = each-zero (drop k (g .entries)) (λ i. getD-drop k (g .entries) i zeroEntry ∙ z (k + i) (omega arith))
 
 -- no entry and every slot zero is the empty log
 pub empty-log-is : (g : Log) → length (g .entries) ≡ logLimit → isEmptyLog g ≡ true → g ≡ emptyLog
 unfolding isEmptyLog
 empty-log-is g slots h =
     let none = eqb-true (g .len) 0 (and-left _ _ h) in
-    let zero-from = rest-is g 0 slots (and-right (eqb (g .len) 0) _ h) in
+    let zero-from = rest-is g 0 (and-right (eqb (g .len) 0) _ h) in
     let e : g .entries ≡ replicate logLimit zeroEntry =
     ext-getD zeroEntry (g .entries) (replicate logLimit zeroEntry) (slots ∙ sym (length-replicate logLimit zeroEntry))
     (λ i l. zero-from i (omega arith) ∙ sym (getD-replicate logLimit i zeroEntry zeroEntry (omega (arith, slots)))) in
@@ -169,7 +174,7 @@ unfolding logOk
 log-good {term} {g} s h =
     let h2 = and-right (leb (g .len) logLimit) _ h in
     record {
-      tidy = record { slots = s; short = leb-true (g .len) logLimit (and-left _ _ h); rest = rest-is g (g .len) s (and-left _ _ h2) };
+      tidy = record { slots = s; short = leb-true (g .len) logLimit (and-left _ _ h); rest = rest-is g (g .len) (and-left _ _ h2) };
       order = orderly (and-right (restZero g (g .len)) _ h2);
     }
 

@@ -1,22 +1,18 @@
 -- Laws of `inOrder` and `restZero`, for their loops. Assumes nothing.
-use mathlib.Core.Path.{_≡_, refl, sym}
+use mathlib.Core.Path.{_≡_, refl, ap, sym, _∙_}
 use mathlib.Core.List.{List}
-use mathlib.Core.Bool.{true, false, _||_}
+use mathlib.Core.Bool.{true, false}
 use Prim.Native.Nat.{ℕ, suc, _+_, _<_, _≤_}
 use native.Mathlib.Numerals.{add-one}
 use native.Mathlib.Omega.{arith}
-use lib.Dec.{ltb}
-use lib.ListN.{length, getD}
-use borrow.Author.Count.{below-more}
-use borrow.Author.Tests.{lt-ltb, le-ltb}
+use lib.ListN.{length, drop, getD, drop-of-length-le}
+use lib.Seq.{drop-cons}
 use Rattle.base.specs.Numbers.{every}
-use Rattle.base.proofs.Bools.{or-left, or-right}
-use Rattle.base.proofs.Every.{every-none, every-more, every-fails, every-all}
+use Rattle.base.proofs.Every.{every-none, every-more, every-fails}
 use Rattle.log.specs.declared.Entry.{Entry}
 use Rattle.log.specs.declared.Log.{Log}
 use Rattle.log.specs.Entries.{zeroEntry, sameEntry, entryAt}
-use Rattle.log.specs.Logs.{logLimit}
-use Rattle.log.specs.Order.{placeOk, inOrder, restZero}
+use Rattle.log.specs.Order.{placeOk, inOrder, allZero, restZero}
 
 -- ---- a loop over the entries that carries the last one along
 
@@ -50,21 +46,27 @@ module _ {term : ℕ} {es : List Entry} {i : ℕ} {d : Entry} (u : Placed term e
 
 -- ---- a loop over the slots from k on
 
--- every slot below i is before k or zero
+next-zero : (es : List Entry) (i : ℕ) → i < length es → sameEntry (getD es i zeroEntry) zeroEntry ≡ true → allZero (drop i es) ≡ allZero (drop (i + 1) es)
+next-zero es i h e = rw (add-one, drop-cons es i zeroEntry h) (simp e)
+
+next-other : (es : List Entry) (i : ℕ) → i < length es → sameEntry (getD es i zeroEntry) zeroEntry ≡ false → allZero (drop i es) ≡ false
+next-other es i h e = rw (drop-cons es i zeroEntry h) (simp e)
+
+-- the slots from k on are zero if those from i on are
 abbrev pub ZeroUpto : Log → ℕ → ℕ → Type 0
-ZeroUpto g k i = (j : ℕ) → j < i → (ltb j k || sameEntry (getD (g .entries) j zeroEntry) zeroEntry) ≡ true
+ZeroUpto g k i = restZero g k ≡ allZero (drop i (g .entries))
 
 pub zero-none : (g : Log) (k : ℕ) → ZeroUpto g k k
-zero-none g k j h = or-left _ _ (lt-ltb j k h)
+unfolding restZero
+zero-none g k = refl
 
 module _ (g : Log) (k i : ℕ) (u : ZeroUpto g k i) where
-  pub zero-more : sameEntry (getD (g .entries) i zeroEntry) zeroEntry ≡ true → ZeroUpto g k (i + 1)
-  zero-more e = below-more _ _ u (or-right (ltb i k) _ e)
+  pub zero-all : length (g .entries) ≤ i → true ≡ restZero g k
+  zero-all h = sym (u ∙ ap allZero (drop-of-length-le (g .entries) h))
 
-  pub zero-fails : k ≤ i → i < logLimit → sameEntry (getD (g .entries) i zeroEntry) zeroEntry ≡ false → false ≡ restZero g k
-  unfolding restZero
-  zero-fails h l e = sym (every-fails _ logLimit i l (rw (le-ltb i k h) e))
+  module _ (h : i < length (g .entries)) where
+    pub zero-more : sameEntry (getD (g .entries) i zeroEntry) zeroEntry ≡ true → ZeroUpto g k (i + 1)
+    zero-more e = u ∙ next-zero (g .entries) i h e
 
-  pub zero-all : logLimit ≤ i → true ≡ restZero g k
-  unfolding restZero
-  zero-all h = sym (every-all _ logLimit (λ j l. u j (omega arith)))
+    pub zero-fails : sameEntry (getD (g .entries) i zeroEntry) zeroEntry ≡ false → false ≡ restZero g k
+    zero-fails e = sym (u ∙ next-other (g .entries) i h e)

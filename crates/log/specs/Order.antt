@@ -1,9 +1,9 @@
 -- Which logs a well-formed record may hold, as 01 words it, and 02 for entries that write nothing. Assumes nothing.
-use mathlib.Core.List.{List}
-use mathlib.Core.Bool.{Bool, _&&_, _||_}
+use mathlib.Core.List.{List, [], _∷_}
+use mathlib.Core.Bool.{Bool, true, _&&_, _||_}
 use Prim.Native.Nat.{ℕ, suc}
-use lib.Dec.{eqb, ltb, leb}
-use lib.ListN.{length, getD}
+use lib.Dec.{eqb, leb}
+use lib.ListN.{length, drop}
 use Rattle.base.specs.Numbers.{every}
 use Rattle.clock.specs.Times.{isBefore}
 use Rattle.log.specs.declared.Entry.{Entry}
@@ -42,9 +42,14 @@ placeOk term i d e = entryOk term e && (eqb i 0 || follows d e)
 unfoldable pub inOrder : ℕ → List Entry → Bool
 inOrder term es = every (length es) (λ i. placeOk term i (entryAt es i) (entryAt es (suc i)))
 
+-- every entry is zero
+abbrev pub allZero : List Entry → Bool
+allZero [] = true
+allZero (e ∷ es) = sameEntry e zeroEntry && allZero es
+
 -- every slot past the first k is zero
 unfoldable pub restZero : Log → ℕ → Bool
-restZero g k = every logLimit (λ i. ltb i k || sameEntry (getD (g .entries) i zeroEntry) zeroEntry)
+restZero g k = allZero (drop k (g .entries))
 
 -- no entry, and every slot is zero
 unfoldable pub isEmptyLog : Log → Bool
