@@ -8,9 +8,9 @@ use Rattle.clock.specs.Times.{limit}
 use Rattle.log.specs.declared.Entry.{Entry}
 use Rattle.log.specs.Order.{inOrder}
 
--- a whole committed log has at most 32 entries
+-- a whole committed log has at most 128 entries
 abbrev pub committedLimit : ℕ
-committedLimit = 32
+committedLimit = 128
 
 pub record Committed : Type 0 where
   pub terms : List ℕ

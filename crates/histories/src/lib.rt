@@ -33,7 +33,7 @@ pub enum Checked {
 // How many records a list can have, and how many entries a whole committed log.
 pub const MOST_RECORDS: usize = 256;
 
-pub const COMMITTED_LIMIT: usize = 32;
+pub const COMMITTED_LIMIT: usize = 128;
 
 // The kind of a write's record, and of a majority read's.
 pub const WRITE_KIND: u8 = 6;

@@ -9,13 +9,13 @@ use Rattle.log.specs.declared.Entry.{Entry}
 use Rattle.log.specs.declared.Log.{Log}
 use Rattle.log.specs.Entries.{zeroEntry}
 
--- a log keeps at most 32 entries
+-- a log keeps at most 128 entries
 abbrev pub logLimit : ℕ
-logLimit = 32
+logLimit = 128
 
--- positions go to 32: those that can be asked for (kinds 12 and 15), and so the lengths in notes and reports
+-- positions go to 128: those that can be asked for (kinds 12 and 15), and so the lengths in notes and reports
 abbrev pub highestPosition : ℕ
-highestPosition = 32
+highestPosition = 128
 
 -- a position and a term by which an entry may be asked for
 unfoldable pub mayAsk : ℕ → ℕ → Bool

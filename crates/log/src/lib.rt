@@ -20,10 +20,10 @@ pub struct Log {
 }
 
 // How many entries a log can keep.
-pub const LOG_LIMIT: usize = 32;
+pub const LOG_LIMIT: usize = 128;
 
 // The highest position: what can be asked for, and lengths in notes and reports, go so far.
-pub const HIGHEST_POSITION: usize = 32;
+pub const HIGHEST_POSITION: usize = 128;
 
 pub const HIGHEST_KEY: u8 = 15;
 
