@@ -32,7 +32,7 @@ use Rattle.log.proofs.Ranges.{fits-appended}
 use Rattle.lines.specs.Texts.{lines}
 use Rattle.saved.specs.declared.Sort.{Sort}
 use Rattle.saved.specs.declared.Sort.the-variants as S
-use Rattle.saved.specs.Layout.{Widths, numbersIn, said}
+use Rattle.saved.specs.Layout.{Widths, numbersIn, saidAt}
 use Rattle.saved.specs.Written.{mostBytes}
 use Rattle.saved.proofs.Fields.{said-below}
 use Rattle.saved.proofs.Lawful.{BytesAt, Tells, Lawful}
@@ -76,7 +76,7 @@ roomy-bytes line i =
 
 module _ {w : Widths} (l : Lawful w) (bs : List ℕ) (b : BytesAt bs) where
   -- every number has room in two bytes
-  number-at : (k : Sort) (i : ℕ) → said w k bs i ≤ limit
+  number-at : (k : Sort) (i : ℕ) → saidAt w k bs i ≤ limit
   number-at k i = said-below (w k) bs b 1 i
 
   fits-head-said : FitsHead (headSaid (numbersIn w S.Server bs))
@@ -141,7 +141,7 @@ module _ {w : Widths} (l : Lawful w) (bs : List ℕ) (b : BytesAt bs) where
   unfolding withFrame
   fits-frame d f = go (eqb (byteAt bs 0) 0) (eqb (byteAt bs 0) 1)
     where
-      go : (x y : Bool) → Fits (cond x (counting d (said w S.First bs 1)) (cond y (beginning d (serverSaid (numbersIn w S.Server bs))) (telling w d bs)) .cluster)
+      go : (x y : Bool) → Fits (cond x (counting d (saidAt w S.First bs 1)) (cond y (beginning d (serverSaid (numbersIn w S.Server bs))) (telling w d bs)) .cluster)
       go true y = record { count = omega (arith, number-at S.First 1); slots = f .slots; each = f .each }
       go false true = fits-begun d f
       go false false = fits-telling d f

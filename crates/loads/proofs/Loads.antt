@@ -24,7 +24,7 @@ use Rattle.steps.specs.Refusals.{decided}
 use Rattle.steps.specs.Answers.{refusingAll}
 use Rattle.steps.specs.Reasons.{Clear, Broken, here, later}
 use Rattle.steps.proofs.Decided.{decided-clear, decided-broken}
-use Rattle.saved.specs.Editions.{Edition, edition1, edition2, editions, newest, isKnown, numbered, allows, hasForm}
+use Rattle.saved.specs.Editions.{Edition, edition1, edition2, editions, newest, isKnown, editionNumbered, allows, hasForm}
 use Rattle.saved.specs.Saved.{savedAs, saveOf}
 use Rattle.saved.specs.Shape.{namedIn, namedBy, shapedFirst, shapedFor}
 use Rattle.saved.proofs.Lawful.{Lawful, numbered-is}
@@ -192,7 +192,7 @@ module _ (knows : List Edition) (r : Reads knows) where
 
     module _ (d : Cluster) (f : Fits d) (h : wellFormed d ≡ true) where
       pub in-its-edition : editionOf knows (savedAs e d) ≡ e
-      in-its-edition = ap (numbered knows) (saved-named e found (k .short) d f h) ∙ k .same
+      in-its-edition = ap (editionNumbered knows) (saved-named e found (k .short) d f h) ∙ k .same
 
       pub in-shape : shapedFor knows (savedAs e d) ≡ true
       in-shape = saved-shaped e found (k .short) d f h knows (k .known) (k .same)

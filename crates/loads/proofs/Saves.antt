@@ -12,14 +12,14 @@ use Rattle.cluster.specs.declared.Cluster.{Cluster}
 use Rattle.steps.specs.declared.Refusal.the-variants.{IllFormed, OutOfRange}
 use Rattle.saved.specs.declared.Saved.{Saved}
 use Rattle.saved.specs.declared.Saved.the-variants.{Text, NoRoom, Refused}
-use Rattle.saved.specs.Editions.{editions, isKnown, numbered, hasForm}
+use Rattle.saved.specs.Editions.{editions, isKnown, editionNumbered, hasForm}
 use Rattle.saved.specs.Saved.{savedAs}
 use Rattle.saved.specs.Written.{longest, savedAsOf, savedAsOut}
 use Rattle.loads.specs.Loads.{sameText}
 
 -- the edition of a number is known and has a form for the record
 abbrev pub hasText : ℕ → Cluster → Bool
-hasText n d = isKnown editions n && hasForm (numbered editions n) d
+hasText n d = isKnown editions n && hasForm (editionNumbered editions n) d
 
 abbrev pub isText : Saved → Bool
 isText (Text n) = true
@@ -28,7 +28,7 @@ isText (Refused r) = false
 
 module _ (n : ℕ) (d : Cluster) where
   abbrev form : List ℕ
-  form = savedAs (numbered editions n) d
+  form = savedAs (editionNumbered editions n) d
 
   -- a text of so many bytes was written into a buffer: the record has a form, and that is what stands first
   pub record Wrote (m : ℕ) (after : List ℕ) : Type 0 where
@@ -39,7 +39,7 @@ module _ (n : ℕ) (d : Cluster) where
   -- there is a text just where the edition has a form for the record
   saves : (room : ℕ) → longest ≤ room → isText (savedAsOf n d room) ≡ hasText n d
   unfolding savedAsOf
-  saves room h = rw (le-ltb room longest h) (go (isKnown editions n) (hasForm (numbered editions n) d))
+  saves room h = rw (le-ltb room longest h) (go (isKnown editions n) (hasForm (editionNumbered editions n) d))
     where
       go : (x y : Bool) → isText (cond x (cond y (Text (length form)) (Refused IllFormed)) (Refused OutOfRange)) ≡ (x && y)
       go true true = refl
@@ -64,7 +64,7 @@ module _ (n : ℕ) (d : Cluster) where
       known : isKnown editions n ≡ true
       known = and-left _ _ has
 
-      formed : hasForm (numbered editions n) d ≡ true
+      formed : hasForm (editionNumbered editions n) d ≡ true
       formed = and-right (isKnown editions n) _ has
 
       long : m ≡ length form
@@ -77,7 +77,7 @@ module _ (n : ℕ) (d : Cluster) where
 
   -- what a comparison then says
   abbrev savesTo : List ℕ → Bool
-  savesTo text = isKnown editions n && (hasForm (numbered editions n) d && sameText form text)
+  savesTo text = isKnown editions n && (hasForm (editionNumbered editions n) d && sameText form text)
 
   both : (x y z : Bool) → ((x && y) && z) ≡ (x && (y && z))
   both true y z = refl
@@ -86,7 +86,7 @@ module _ (n : ℕ) (d : Cluster) where
   pub wrote-same : {m : ℕ} {after : List ℕ} → Wrote m after → (text : List ℕ) → sameText (take m after) text ≡ savesTo text
   wrote-same w text =
       ap (λ (t : List ℕ). sameText t text) (w .text) ∙ sym (ap (λ (b : Bool). b && sameText form text) (w .has))
-      ∙ both (isKnown editions n) (hasForm (numbered editions n) d) (sameText form text)
+      ∙ both (isKnown editions n) (hasForm (editionNumbered editions n) d) (sameText form text)
 
   pub wrote-none : hasText n d ≡ false → (text : List ℕ) → false ≡ savesTo text
-  wrote-none e text = sym (ap (λ (b : Bool). b && sameText form text) e) ∙ both (isKnown editions n) (hasForm (numbered editions n) d) (sameText form text)
+  wrote-none e text = sym (ap (λ (b : Bool). b && sameText form text) e) ∙ both (isKnown editions n) (hasForm (editionNumbered editions n) d) (sameText form text)

@@ -33,7 +33,7 @@ use Rattle.cluster.proofs.Sound.{ServerSound, Sound}
 use Rattle.saved.specs.declared.Sort.{Sort}
 use Rattle.saved.specs.declared.Sort.the-variants as S
 use Rattle.saved.specs.Layout.{Widths, sortNumber, sizeOf, frame, numbersIn, usedNotes, serverNumbers, entryNumbers, toldNumbers, firstFrame, serverFrame, entryFrame, reportFrame, noteFrame}
-use Rattle.saved.specs.Editions.{Edition, isKnown, numbered}
+use Rattle.saved.specs.Editions.{Edition, isKnown, editionNumbered}
 use Rattle.saved.specs.Saved.{noteFrames, queuedReports, serverFrames, allFrames, framesOf, savedAs}
 use Rattle.saved.specs.Shape.{isFrame, announced, shapedBy, namedIn, namedBy, shapedFirst, shapedFor}
 use Rattle.saved.proofs.Texts.{AllBytes, all-none, all-more, text-lines, text-ends}
@@ -202,10 +202,10 @@ module _ (e : Edition) (l : Lawful (e .widths)) (b : e .number < byte) (c : Clus
       ∙ ap (λ (k : ℕ). framedBy w (replicate k S.Server ++ []) all) (sym (counted-long g)) ∙ servers-framed l (counted c) (all-count g)
 
   -- THE LAW: for a reader that knows its edition, it has the shape
-  pub saved-shaped : (knows : List Edition) → isKnown knows (e .number) ≡ true → numbered knows (e .number) ≡ e → shapedFor knows (savedAs e c) ≡ true
+  pub saved-shaped : (knows : List Edition) → isKnown knows (e .number) ≡ true → editionNumbered knows (e .number) ≡ e → shapedFor knows (savedAs e c) ≡ true
   unfolding shapedFor
   saved-shaped knows k is =
       and-both _ _ (eq-eqb _ _ (text-ends first-frame all))
       (ap (shapedFirst knows) saved-lines
-      ∙ ap (λ (n : ℕ). isKnown knows n && shapedBy (numbered knows n .widths) (S.First ∷ []) (hexOf first-frame ∷ map hexOf all)) first-named
+      ∙ ap (λ (n : ℕ). isKnown knows n && shapedBy (editionNumbered knows n .widths) (S.First ∷ []) (hexOf first-frame ∷ map hexOf all)) first-named
       ∙ and-both _ _ k (ap (λ (x : Edition). shapedBy (x .widths) (S.First ∷ []) (hexOf first-frame ∷ map hexOf all)) is ∙ frames-shaped))

@@ -17,7 +17,7 @@ use Rattle.cluster.specs.declared.Cluster.{Cluster}
 use Rattle.cluster.specs.Servers.{mostServers, withLog, withMail, serverAt, zeroCluster, withServer}
 use Rattle.lines.specs.Texts.{lines}
 use Rattle.saved.specs.declared.Sort.the-variants as S
-use Rattle.saved.specs.Layout.{Widths, sortNumber, numbersIn, said}
+use Rattle.saved.specs.Layout.{Widths, sortNumber, numbersIn, saidAt}
 use Rattle.saved.specs.Written.{mostBytes}
 use Rattle.loads.specs.declared.Draft.{Draft}
 
@@ -77,7 +77,7 @@ module _ (w : Widths) where
 
   unfoldable pub withFrame : Draft → List ℕ → Draft
   withFrame d bs =
-      cond (eqb (byteAt bs 0) (sortNumber S.First)) (counting d (said w S.First bs 1))
+      cond (eqb (byteAt bs 0) (sortNumber S.First)) (counting d (saidAt w S.First bs 1))
       (cond (eqb (byteAt bs 0) (sortNumber S.Server)) (beginning d (serverSaid (numbersIn w S.Server bs))) (telling d bs))
 
   abbrev pub decodedBy : Draft → List (List ℕ) → Draft

@@ -12,7 +12,7 @@ use Rattle.steps.specs.declared.Answer.the-variants.{Done}
 use Rattle.steps.specs.declared.Refusal.the-variants.{NotAFrame, IllFormed}
 use Rattle.steps.specs.Refusals.{Rules, decided}
 use Rattle.steps.specs.Answers.{refusingAll}
-use Rattle.saved.specs.Editions.{Edition, editions, numbered, hasForm}
+use Rattle.saved.specs.Editions.{Edition, editions, editionNumbered, hasForm}
 use Rattle.saved.specs.Saved.{savedAs}
 use Rattle.saved.specs.Shape.{namedBy, shapedFor}
 use Rattle.loads.specs.Decoded.{decodedIn}
@@ -28,7 +28,7 @@ loaded d = record { cluster = d; answer = Done }
 module _ (knows : List Edition) where
   -- the edition of a text, and what it decodes to there
   abbrev pub editionOf : List ℕ → Edition
-  editionOf text = numbered knows (namedBy text)
+  editionOf text = editionNumbered knows (namedBy text)
 
   abbrev pub decoded : List ℕ → Cluster
   decoded text = decodedIn (editionOf text .widths) text

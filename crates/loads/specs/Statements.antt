@@ -11,7 +11,7 @@ use Rattle.cluster.specs.WellFormed.{wellFormed}
 use Rattle.cluster.specs.Ranges.{Fits}
 use Rattle.steps.specs.declared.Refusal.the-variants.{NotAFrame, IllFormed}
 use Rattle.steps.specs.Answers.{refusingAll}
-use Rattle.saved.specs.Editions.{Edition, edition1, edition2, isKnown, numbered, allows, hasForm}
+use Rattle.saved.specs.Editions.{Edition, edition1, edition2, isKnown, editionNumbered, allows, hasForm}
 use Rattle.saved.specs.Saved.{savedAs, saveOf}
 use Rattle.saved.specs.Shape.{namedBy, shapedFor}
 use Rattle.loads.specs.Loads.{loaded, editionOf, loadFor, loadOf}
@@ -26,7 +26,7 @@ pub record IsSaved (e : Edition) (d : Cluster) (text : List ℕ) : Type 0 where
 pub record Finds (knows : List Edition) (e : Edition) : Type 0 where
   pub short : e .number < byte
   pub known : isKnown knows (e .number) ≡ true
-  pub same : numbered knows (e .number) ≡ e
+  pub same : editionNumbered knows (e .number) ≡ e
 
 -- ---- of a reader, whatever editions it knows
 

@@ -6,7 +6,7 @@ ghost use Rattle.hex.specs.Lines.{bytesOf};
 ghost use Rattle.words.specs.Words.{wordAt};
 ghost use Rattle.saved.specs.declared.Sort.the-variants as S;
 ghost use Rattle.saved.specs.Layout.{numbersIn};
-ghost use Rattle.saved.specs.Editions.{widths1, editions, isKnown, numbered, hasForm};
+ghost use Rattle.saved.specs.Editions.{widths1, editions, isKnown, editionNumbered, hasForm};
 ghost use Rattle.saved.specs.Saved.{savedAs};
 ghost use Rattle.saved.specs.Written.{mostBytes};
 ghost use Rattle.loads.specs.Decoded.{headSaid, serverSaid, entrySaid, reportSaid, toldBy, counting, beginning, telling, withFrame, roomy, freshDraft, decodedIn};
@@ -238,7 +238,7 @@ pub fn same_text(a: &[u8], b: &[u8]) -> bool
 
 // Whether the edition has a form for a record, and the text is that form.
 fn saves_to(edition: u8, d: Cluster, text: &[u8]) -> bool
-    ensures { λ r. ⌜ r ≡ (isKnown editions edition && (hasForm (numbered editions edition) d && sameText (savedAs (numbered editions edition) d) (now (text .entry)))) ⌝ }
+    ensures { λ r. ⌜ r ≡ (isKnown editions edition && (hasForm (editionNumbered editions edition) d && sameText (savedAs (editionNumbered editions edition) d) (now (text .entry)))) ⌝ }
 {
     let mut out = [0u8; saved::LONGEST];
     let wrote = saved::save_as(edition, d, &mut out);

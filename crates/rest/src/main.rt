@@ -4,7 +4,7 @@
 // a = b (15 to 18: refusal 3, also where the role is wrong),
 // a candidate outside its own set (19 to 22: refused, and then elected inside it),
 // a restart between pull and commit (23 to 35 of the server that pulled, 36 to 50 of the primary),
-// a log of 31 and of 32 at a write (51 to 92: lines 84 and 85 are the two writes).
+// a log of 127 and of 128 at a write (51 to 188: lines 180 and 181 are the two writes).
 fn main() {
     shell::run();
 }

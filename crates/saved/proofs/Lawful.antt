@@ -24,8 +24,8 @@ use Rattle.cluster.specs.declared.Server.{Server}
 use Rattle.cluster.specs.Ranges.{FitsServer}
 use Rattle.saved.specs.declared.Sort.{Sort}
 use Rattle.saved.specs.declared.Sort.the-variants as S
-use Rattle.saved.specs.Layout.{Widths, sizeOf, said, firstFrame, serverNumbers, entryNumbers, toldNumbers}
-use Rattle.saved.specs.Editions.{Edition, widths1, edition1, edition2, editions, newest, isKnown, numbered}
+use Rattle.saved.specs.Layout.{Widths, sizeOf, saidAt, firstFrame, serverNumbers, entryNumbers, toldNumbers}
+use Rattle.saved.specs.Editions.{Edition, widths1, edition1, edition2, editions, newest, isKnown, editionNumbered}
 use Rattle.saved.specs.Written.{mostBytes, Small}
 use Rattle.saved.proofs.Fields.{Room}
 
@@ -37,7 +37,7 @@ BytesAt bs = (i : ℕ) → byteAt bs i < byte
 pub record Tells (w : Widths) (k : Sort) : Type 0 where
   pub long : length (w k) ≡ 4
   pub room : (who : ℕ) (n : Note) → who < byte → FitsNote n → Room (w k) (toldNumbers who n)
-  pub who : (bs : List ℕ) → BytesAt bs → said w k bs 0 < byte
+  pub who : (bs : List ℕ) → BytesAt bs → saidAt w k bs 0 < byte
 
 pub record Lawful (w : Widths) : Type 0 where
   pub small : (k : Sort) → sizeOf w k ≤ mostBytes
@@ -48,7 +48,7 @@ pub record Lawful (w : Widths) : Type 0 where
   pub server : (s : Server) → FitsServer s → Small s → Room (w S.Server) (serverNumbers s)
   pub entry-long : length (w S.Entry) ≡ 5
   pub entry : (e : Entry) → FitsEntry e → Room (w S.Entry) (entryNumbers e)
-  pub key : (bs : List ℕ) → BytesAt bs → said w S.Entry bs 1 < byte
+  pub key : (bs : List ℕ) → BytesAt bs → saidAt w S.Entry bs 1 < byte
   pub note : Tells w S.Note
   pub report : Tells w S.Report
 
@@ -94,7 +94,7 @@ lawful1 =
 -- ---- editions by their numbers
 
 -- editions 1 and 2 have these fields, for a reader of both and for one of edition 1
-pub both-same : (n : ℕ) → numbered editions n .widths ≡ widths1
+pub both-same : (n : ℕ) → editionNumbered editions n .widths ≡ widths1
 both-same n = go (eqb n 1) (eqb n 2)
   where
     go : (x y : Bool) → cond x edition1 (cond y edition2 newest) .widths ≡ widths1
@@ -102,18 +102,18 @@ both-same n = go (eqb n 1) (eqb n 2)
     go false true = refl
     go false false = refl
 
-pub old-same : (n : ℕ) → numbered (edition1 ∷ []) n .widths ≡ widths1
+pub old-same : (n : ℕ) → editionNumbered (edition1 ∷ []) n .widths ≡ widths1
 old-same n = go (eqb n 1)
   where
     go : (x : Bool) → cond x edition1 newest .widths ≡ widths1
     go true = refl
     go false = refl
 
-pub numbered-is : (knows : List Edition) (n : ℕ) → isKnown knows n ≡ true → numbered knows n .number ≡ n
+pub numbered-is : (knows : List Edition) (n : ℕ) → isKnown knows n ≡ true → editionNumbered knows n .number ≡ n
 numbered-is [] n h = not-both false h refl
 numbered-is (e ∷ es) n h = go (eqb n (e .number)) refl h (numbered-is es n)
   where
-    go : (b : Bool) → eqb n (e .number) ≡ b → (b || isKnown es n) ≡ true → (isKnown es n ≡ true → numbered es n .number ≡ n) → cond b e (numbered es n) .number ≡ n
+    go : (b : Bool) → eqb n (e .number) ≡ b → (b || isKnown es n) ≡ true → (isKnown es n ≡ true → editionNumbered es n .number ≡ n) → cond b e (editionNumbered es n) .number ≡ n
     go true p h rest = sym (eqb-true n (e .number) p)
     go false p h rest = rest h
 
@@ -129,10 +129,10 @@ known-2 n e = rw (ne-eqb n 1 e) (go (eqb n 2))
     go true = refl
     go false = refl
 
-pub numbered-1 : (n : ℕ) → n ≡ 1 → edition1 ≡ numbered editions n
+pub numbered-1 : (n : ℕ) → n ≡ 1 → edition1 ≡ editionNumbered editions n
 numbered-1 n e = rw (eq-eqb n 1 e)
 
-pub numbered-2 : (n : ℕ) → n ≢ 1 → newest ≡ numbered editions n
+pub numbered-2 : (n : ℕ) → n ≢ 1 → newest ≡ editionNumbered editions n
 numbered-2 n e = rw (ne-eqb n 1 e) (go (eqb n 2))
   where
     go : (b : Bool) → newest ≡ cond b edition2 newest

@@ -9,7 +9,7 @@ use Rattle.cluster.specs.declared.Cluster.{Cluster}
 use Rattle.saved.specs.declared.Sort.{Sort}
 use Rattle.saved.specs.Layout.{sortNumber}
 use Rattle.saved.specs.Editions as Editions
-use Rattle.saved.specs.Editions.{editions, isKnown, numbered, limitsOf}
+use Rattle.saved.specs.Editions.{editions, isKnown, editionNumbered, limitsOf}
 use Rattle.saved.specs.Written.{savedAsOf, savedAsOut, savedOf, savedOut}
 use Rattle.saved.proofs.sort_number.Reads as sort-number-reads
 use Rattle.saved.proofs.is_known.Reads as is-known-reads
@@ -25,10 +25,10 @@ pub is-known : (n : ℕ) → OneResult (λ x. is-known-reads.Learnt tt (n, tt) x
 is-known n = one-result (isKnown editions n)
 
 pub limits-of : (n : ℕ) → OneResult (λ x. limits-of-reads.Learnt tt (n, tt) x (n, tt))
-limits-of n = one-result (limitsOf (numbered editions n))
+limits-of n = one-result (limitsOf (editionNumbered editions n))
 
 pub allows : (n : ℕ) (c : Cluster) → OneResult (λ x. allows-reads.Learnt tt (n, (c, tt)) x (n, (c, tt)))
-allows n c = one-result (Editions.allows (numbered editions n) c)
+allows n c = one-result (Editions.allows (editionNumbered editions n) c)
 
 pub save-as : (κs : Lfts 1) (n : ℕ) (c : Cluster) (out : RefT (List ℕ)) → OneOutcome (λ x o. save-as-reads.Learnt κs (n, (c, (out, tt))) x (n, (c, (o, tt))))
 save-as κs n c out = one-outcome (savedAsOf n c (length (now out))) (savedAsOut n c (now out))

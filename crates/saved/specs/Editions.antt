@@ -56,9 +56,9 @@ isKnown [] n = false
 isKnown (e ∷ es) n = eqb n (e .number) || isKnown es n
 
 -- the edition of this number among those that are known
-abbrev pub numbered : List Edition → ℕ → Edition
-numbered [] n = newest
-numbered (e ∷ es) n = cond (eqb n (e .number)) e (numbered es n)
+abbrev pub editionNumbered : List Edition → ℕ → Edition
+editionNumbered [] n = newest
+editionNumbered (e ∷ es) n = cond (eqb n (e .number)) e (editionNumbered es n)
 
 -- ---- what they allow
 

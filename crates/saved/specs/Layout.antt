@@ -65,8 +65,8 @@ sizeOf w s = suc (sizeBy (w s))
 abbrev pub numbersIn : Widths → Sort → List ℕ → List ℕ
 numbersIn w s bs = saidFrom (w s) bs 1
 
-abbrev pub said : Widths → Sort → List ℕ → ℕ → ℕ
-said w s bs i = byteAt (numbersIn w s bs) i
+abbrev pub saidAt : Widths → Sort → List ℕ → ℕ → ℕ
+saidAt w s bs i = byteAt (numbersIn w s bs) i
 
 -- ---- what they say
 

@@ -10,8 +10,8 @@ use Rattle.words.specs.Words.{byteAt, framed}
 use Rattle.lines.specs.Texts.{lineFeed, lines}
 use Rattle.saved.specs.declared.Sort.{Sort}
 use Rattle.saved.specs.declared.Sort.the-variants as S
-use Rattle.saved.specs.Layout.{Widths, sortNumber, sizeOf, said}
-use Rattle.saved.specs.Editions.{Edition, editions, isKnown, numbered}
+use Rattle.saved.specs.Layout.{Widths, sortNumber, sizeOf, saidAt}
+use Rattle.saved.specs.Editions.{Edition, editions, isKnown, editionNumbered}
 
 -- a line of the sort's length in hexadecimal, whose first byte says the sort
 unfoldable pub isFrame : Widths → Sort → List ℕ → Bool
@@ -19,9 +19,9 @@ isFrame w s line = framed (sizeOf w s) (λ bs. eqb (byteAt bs 0) (sortNumber s))
 
 -- the frames that a frame says will follow it
 abbrev pub announced : Widths → Sort → List ℕ → List Sort
-announced w S.First bs = replicate (said w S.First bs 1) S.Server
+announced w S.First bs = replicate (saidAt w S.First bs 1) S.Server
 announced w S.Server bs =
-    replicate (said w S.Server bs 0) S.Entry ++ (replicate (said w S.Server bs 1) S.Note ++ replicate (said w S.Server bs 2) S.Report)
+    replicate (saidAt w S.Server bs 0) S.Entry ++ (replicate (saidAt w S.Server bs 1) S.Note ++ replicate (saidAt w S.Server bs 2) S.Report)
 announced w S.Entry bs = []
 announced w S.Note bs = []
 announced w S.Report bs = []
@@ -44,7 +44,7 @@ namedBy text = namedIn (getD (lines text) 0 [])
 -- the first line is a first frame of an edition that is known, and all are frames of that edition
 abbrev pub shapedFirst : List Edition → List (List ℕ) → Bool
 shapedFirst knows [] = false
-shapedFirst knows (l ∷ ls) = isKnown knows (namedIn l) && shapedBy (numbered knows (namedIn l) .widths) (S.First ∷ []) (l ∷ ls)
+shapedFirst knows (l ∷ ls) = isKnown knows (namedIn l) && shapedBy (editionNumbered knows (namedIn l) .widths) (S.First ∷ []) (l ∷ ls)
 
 -- the last line ends in a line feed
 unfoldable pub shapedFor : List Edition → List ℕ → Bool

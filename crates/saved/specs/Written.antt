@@ -20,7 +20,7 @@ use Rattle.saved.specs.declared.Sort.the-variants as S
 use Rattle.saved.specs.declared.Saved.{Saved}
 use Rattle.saved.specs.declared.Saved.the-variants.{Text, NoRoom, Refused}
 use Rattle.saved.specs.Layout.{sizeOf}
-use Rattle.saved.specs.Editions.{editions, newest, isKnown, numbered, hasForm}
+use Rattle.saved.specs.Editions.{editions, newest, isKnown, editionNumbered, hasForm}
 use Rattle.saved.specs.Saved.{textOf, savedAs, saveOf}
 
 -- no frame of any edition has more bytes than a server's of the newest
@@ -55,12 +55,12 @@ longest = lineLength S.First + mostServers * longestServer
 unfoldable pub savedAsOf : ℕ → Cluster → ℕ → Saved
 savedAsOf n c room =
     cond (isKnown editions n)
-    (cond (hasForm (numbered editions n) c) (cond (ltb room longest) NoRoom (Text (length (savedAs (numbered editions n) c)))) (Refused IllFormed))
+    (cond (hasForm (editionNumbered editions n) c) (cond (ltb room longest) NoRoom (Text (length (savedAs (editionNumbered editions n) c)))) (Refused IllFormed))
     (Refused OutOfRange)
 
 unfoldable pub savedAsOut : ℕ → Cluster → List ℕ → List ℕ
 savedAsOut n c out =
-    cond (isKnown editions n && hasForm (numbered editions n) c) (cond (ltb (length out) longest) out (placed out 0 (savedAs (numbered editions n) c))) out
+    cond (isKnown editions n && hasForm (editionNumbered editions n) c) (cond (ltb (length out) longest) out (placed out 0 (savedAs (editionNumbered editions n) c))) out
 
 -- in the newest, which has a form for every well-formed record
 unfoldable pub savedOf : Cluster → ℕ → Saved

@@ -10,7 +10,7 @@ ghost use Rattle.mail.specs.Queues.{queueLimit};
 ghost use Rattle.cluster.specs.Servers.{mostServers};
 ghost use Rattle.cluster.specs.WellFormed.{wellFormed};
 ghost use Rattle.saved.specs.Layout.{fieldBytes, sortNumber, usedNotes, firstFrame, serverFrame, entryFrame, toldNumbers, noteFrame, reportFrame};
-ghost use Rattle.saved.specs.Editions.{widths1, editions, isKnown, numbered, notesWithin, reportsWithin, allowsServer, allows, hasForm, limitsOf};
+ghost use Rattle.saved.specs.Editions.{widths1, editions, isKnown, editionNumbered, notesWithin, reportsWithin, allowsServer, allows, hasForm, limitsOf};
 ghost use Rattle.saved.specs.Saved.{noteFrames, queuedReports, serverFrames, allFrames, textOf};
 ghost use Rattle.saved.specs.Written.{Written, Small, longestServer, savedAsOf, savedAsOut, savedOf, savedOut};
 ghost use Rattle.saved.specs.declared.Sort.the-variants as S;
@@ -116,7 +116,7 @@ pub fn is_known(edition: u8) -> bool
 
 // What the records of an edition may hold; of the newest where there is none of that number.
 pub fn limits_of(edition: u8) -> Limits
-    ensures { λ r. ⌜ r ≡ limitsOf (numbered editions edition) ⌝ }
+    ensures { λ r. ⌜ r ≡ limitsOf (editionNumbered editions edition) ⌝ }
 {
     if edition == EDITION_1 {
         return Limits {
@@ -162,7 +162,7 @@ fn reports_within(q: Queue, most: usize) -> bool
 
 // Whether a server has no more than the edition allows.
 fn allows_server(edition: u8, s: Server) -> bool
-    ensures { λ r. ⌜ r ≡ allowsServer (numbered editions edition) s ⌝ }
+    ensures { λ r. ⌜ r ≡ allowsServer (editionNumbered editions edition) s ⌝ }
 {
     let most = limits_of(edition);
     let g = s.log;
@@ -179,7 +179,7 @@ fn allows_server(edition: u8, s: Server) -> bool
 
 // Whether a record has no more than the edition allows.
 pub fn allows(edition: u8, c: Cluster) -> bool
-    ensures { λ r. ⌜ r ≡ allows (numbered editions edition) c ⌝ }
+    ensures { λ r. ⌜ r ≡ allows (editionNumbered editions edition) c ⌝ }
 {
     let mut i = 0;
     while i < cluster::MOST_SERVERS {
@@ -194,7 +194,7 @@ pub fn allows(edition: u8, c: Cluster) -> bool
 
 // Whether the edition has a form for a record.
 fn has_form(edition: u8, c: Cluster) -> bool
-    ensures { λ r. ⌜ r ≡ hasForm (numbered editions edition) c ⌝ }
+    ensures { λ r. ⌜ r ≡ hasForm (editionNumbered editions edition) c ⌝ }
 {
     if !cluster::well_formed(c) {
         return false;

@@ -8,8 +8,8 @@ use borrow.Author.Tests.{lt-ltb}
 use lib.ListN.{replicate}
 use Rattle.saved.specs.declared.Sort.{Sort}
 use Rattle.saved.specs.declared.Sort.the-variants as S
-use Rattle.saved.specs.Layout.{Widths, said}
-use Rattle.saved.specs.Editions.{Edition, numbered}
+use Rattle.saved.specs.Layout.{Widths, saidAt}
+use Rattle.saved.specs.Editions.{Edition, editionNumbered}
 use Rattle.saved.specs.Shape.{announced, shapedBy, shapedFirst}
 use Rattle.shapes.specs.declared.Left.{Left}
 use Rattle.shapes.specs.declared.Due.{Due}
@@ -18,7 +18,7 @@ use Rattle.shapes.specs.Walk.{todo, dueOf, editionFor, leftAfter, isEnd}
 
 -- the lines that may follow, by what is left
 abbrev pub expects : List Edition → Left → List (List ℕ) → Bool
-expects knows l ls = cond (l .begun) (shapedBy (numbered knows (l .edition) .widths) (todo l) ls) (shapedFirst knows ls)
+expects knows l ls = cond (l .begun) (shapedBy (editionNumbered knows (l .edition) .widths) (todo l) ls) (shapedFirst knows ls)
 
 -- a frame of this sort comes after the first, and so is of the text's edition
 pub record Later (k : Sort) : Type 0 where
@@ -57,9 +57,9 @@ tells l = go (l .begun) (l .edition) (l .servers) (l .entries) (l .notes) (l .re
     go true v (suc s) zero zero zero =
         rw (lt-ltb 0 (suc s) (omega arith))
         (next S.Server (replicate s S.Server) refl (record { edition = λ n bs. refl; begun = λ w bs l. refl; kept = λ w bs l. refl }) refl
-        (λ w bs. let es = replicate (said w S.Server bs 0) S.Entry in
-        let ns = replicate (said w S.Server bs 1) S.Note in
-        let rs = replicate (said w S.Server bs 2) S.Report in
+        (λ w bs. let es = replicate (saidAt w S.Server bs 0) S.Entry in
+        let ns = replicate (saidAt w S.Server bs 1) S.Note in
+        let rs = replicate (saidAt w S.Server bs 2) S.Report in
         rw (less s)
         (sym
         (append-assoc es (ns ++ rs) (replicate s S.Server) ∙ ap (λ (x : List Sort). es ++ x) (append-assoc ns rs (replicate s S.Server))))))
@@ -67,6 +67,6 @@ tells l = go (l .begun) (l .edition) (l .servers) (l .entries) (l .notes) (l .re
 
 -- nothing is due exactly where no line may follow
 pub at-end : (knows : List Edition) {l : Left} {d : Due} → Tells l d → isEnd d ≡ expects knows l []
-at-end knows {l} (first b) = sym (ap (λ (x : Bool). cond x (shapedBy (numbered knows (l .edition) .widths) (todo l) []) false) b)
+at-end knows {l} (first b) = sym (ap (λ (x : Bool). cond x (shapedBy (editionNumbered knows (l .edition) .widths) (todo l) []) false) b)
 at-end knows {l} (over b e) = sym (rw (b, e))
 at-end knows {l} (next k ks b later e f) = sym (rw (b, e))

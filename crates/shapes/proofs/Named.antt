@@ -18,7 +18,7 @@ use Rattle.lines.proofs.Held.{empty-stands, push-holds}
 use Rattle.lines.proofs.Lines.{Plain, none, more, plain-snoc, line-first}
 use Rattle.saved.specs.declared.Sort.the-variants as S
 use Rattle.saved.specs.Layout.{Widths}
-use Rattle.saved.specs.Editions.{Edition, isKnown, numbered}
+use Rattle.saved.specs.Editions.{Edition, isKnown, editionNumbered}
 use Rattle.saved.specs.Shape.{isFrame, namedIn, namedBy}
 use Rattle.shapes.specs.declared.Left.{Left}
 use Rattle.shapes.specs.declared.Shape.{Shape}
@@ -44,7 +44,7 @@ module _ (knows : List Edition) where
   ended-keeps s b (next k ks c later e f) = go (isNext knows k (s .left .edition) (shapeHeld s))
     where
       w : Widths
-      w = numbered knows (editionFor k (s .left .edition) (bytesOf (shapeHeld s))) .widths
+      w = editionNumbered knows (editionFor k (s .left .edition) (bytesOf (shapeHeld s))) .widths
 
       go : (t : Bool) → Keeps s (cond t (nextLine w k (bytesOf (shapeHeld s)) s) (brokenAt s))
       go true = record { begun = later .begun w (bytesOf (shapeHeld s)) (s .left) ∙ b; edition = later .kept w (bytesOf (shapeHeld s)) (s .left) }
@@ -82,7 +82,7 @@ module _ (knows : List Edition) (r : Reads knows) where
       n = s .left .edition
 
       after : Shape
-      after = nextLine (numbered knows (byteAt (bytesOf (shapeHeld s)) 1) .widths) S.First (bytesOf (shapeHeld s)) s
+      after = nextLine (editionNumbered knows (byteAt (bytesOf (shapeHeld s)) 1) .widths) S.First (bytesOf (shapeHeld s)) s
 
       go : (y : Bool) → isNext knows S.First n p ≡ y → Names whole text (cond (isNext knows S.First n (shapeHeld s)) after (brokenAt s))
       go true y =
@@ -131,7 +131,7 @@ module _ (knows : List Edition) (r : Reads knows) where
   unknown-from [] rest s p i h pl u = subst AtOnce (sym (ap (λ (x : Shape). walkedFor knows x rest) step ∙ broken-stays knows (brokenAt s) rest refl)) (record { broken = refl; line = i .line })
     where
       no : isNext knows S.First (s .left .edition) (shapeHeld s) ≡ false
-      no = held-next knows r S.First (s .left .edition) s h ∙ ap (λ (x : Bool). x && isFrame (numbered knows (namedIn p) .widths) S.First p) (ap (λ (x : List ℕ). isKnown knows (namedIn x)) (sym (append-nil p)) ∙ u)
+      no = held-next knows r S.First (s .left .edition) s h ∙ ap (λ (x : Bool). x && isFrame (editionNumbered knows (namedIn p) .widths) S.First p) (ap (λ (x : List ℕ). isKnown knows (namedIn x)) (sym (append-nil p)) ∙ u)
 
       step : shapeAfter knows s lineFeed ≡ brokenAt s
       step = after-feed knows s lineFeed (i .whole) refl ∙ ap (λ (d : Due). endedAs knows d s) (first-due (s .left) (i .begun)) ∙ rw no

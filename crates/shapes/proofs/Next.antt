@@ -15,7 +15,7 @@ use Rattle.lines.proofs.Held as Held
 use Rattle.lines.proofs.Held.{held-is, held-framed}
 use Rattle.saved.specs.declared.Sort.{Sort}
 use Rattle.saved.specs.Layout.{Widths, sizeOf}
-use Rattle.saved.specs.Editions.{Edition, edition1, editions, widths1, isKnown, numbered}
+use Rattle.saved.specs.Editions.{Edition, edition1, editions, widths1, isKnown, editionNumbered}
 use Rattle.saved.specs.Shape.{isFrame}
 use Rattle.saved.proofs.Lawful.{Lawful, lawful1, both-same, old-same}
 use Rattle.shapes.specs.declared.Shape.{Shape}
@@ -24,7 +24,7 @@ use Rattle.shapes.proofs.Frames.{small, saysSo}
 
 -- a reader that knows editions with lawful fields
 abbrev pub Reads : List Edition → Type 0
-Reads knows = (n : ℕ) → Lawful (numbered knows n .widths)
+Reads knows = (n : ℕ) → Lawful (editionNumbered knows n .widths)
 
 -- the line that is held stands for the characters p
 abbrev pub StandsFor : Shape → List ℕ → Type 0
@@ -36,7 +36,7 @@ module _ (knows : List Edition) where
   unfolding isNext
   next-none r k n line h = and-no (isKnown knows (editionFor k n (bytesOf line))) _ (h _ (r (editionFor k n (bytesOf line))))
 
-  next-frame : (k : Sort) (n : ℕ) (line : List ℕ) → isNext knows k n line ≡ true → isFrame (numbered knows (editionFor k n (bytesOf line)) .widths) k line ≡ true
+  next-frame : (k : Sort) (n : ℕ) (line : List ℕ) → isNext knows k n line ≡ true → isFrame (editionNumbered knows (editionFor k n (bytesOf line)) .widths) k line ≡ true
   unfolding isNext
   next-frame k n line h = and-right (isKnown knows (editionFor k n (bytesOf line))) _ h
 
@@ -62,7 +62,7 @@ module _ (knows : List Edition) where
     pub held-bytes : isNext knows k n p ≡ true → shapeHeld s ≡ p
     unfolding isFrame
     held-bytes e =
-        let w = numbered knows (editionFor k n (bytesOf p)) .widths in
+        let w = editionNumbered knows (editionFor k n (bytesOf p)) .widths in
         let f = is-frame (sizeOf w k) (saysSo k) false p true (next-frame k n p e) false≢true in
         held-is h (omega (arith, small (r (editionFor k n (bytesOf p))) k, hex-length (bytesOf p), f .long, ap length (f .written)))
 

@@ -18,7 +18,7 @@ use Rattle.lines.proofs.Lines.{Plain, none, more, plain-snoc, line-first}
 use Rattle.saved.specs.declared.Sort.{Sort}
 use Rattle.saved.specs.declared.Sort.the-variants as S
 use Rattle.saved.specs.Layout.{Widths}
-use Rattle.saved.specs.Editions.{Edition, editions, isKnown, numbered}
+use Rattle.saved.specs.Editions.{Edition, editions, isKnown, editionNumbered}
 use Rattle.saved.specs.Shape.{isFrame, announced, shapedBy, namedIn, shapedFirst, shapedFor, shaped}
 use Rattle.shapes.specs.declared.Left.{Left}
 use Rattle.shapes.specs.declared.Shape.{Shape}
@@ -99,7 +99,7 @@ module _ (knows : List Edition) where
 
 module _ (knows : List Edition) (r : Reads knows) where
   abbrev widthsAt : ℕ → Widths
-  widthsAt n = numbered knows n .widths
+  widthsAt n = editionNumbered knows n .widths
 
   -- once the first frame was read, its edition is known
   abbrev Known : Left → Type 0

@@ -12,8 +12,8 @@ use Rattle.lines.specs.Held.{heldLine, nothingHeld, nothingRead, pushed}
 use Rattle.lines.specs.Texts.{lineFeed, oneMore}
 use Rattle.saved.specs.declared.Sort.{Sort}
 use Rattle.saved.specs.declared.Sort.the-variants as S
-use Rattle.saved.specs.Layout.{Widths, said}
-use Rattle.saved.specs.Editions.{Edition, editions, isKnown, numbered}
+use Rattle.saved.specs.Layout.{Widths, saidAt}
+use Rattle.saved.specs.Editions.{Edition, editions, isKnown, editionNumbered}
 use Rattle.saved.specs.Shape.{isFrame}
 use Rattle.saved.specs.Written.{mostBytes}
 use Rattle.shapes.specs.declared.Left.{Left}
@@ -69,15 +69,15 @@ editionFor S.Report n bs = n
 -- what is left after a frame of a sort with these bytes
 abbrev pub leftAfter : Widths → Sort → List ℕ → Left → Left
 leftAfter w S.First bs l =
-    record { begun = true; edition = byteAt bs 1; servers = said w S.First bs 1; entries = 0; notes = 0; reports = 0 }
+    record { begun = true; edition = byteAt bs 1; servers = saidAt w S.First bs 1; entries = 0; notes = 0; reports = 0 }
 leftAfter w S.Server bs l =
     record {
       begun = l .begun;
       edition = l .edition;
       servers = l .servers - 1;
-      entries = said w S.Server bs 0;
-      notes = said w S.Server bs 1;
-      reports = said w S.Server bs 2;
+      entries = saidAt w S.Server bs 0;
+      notes = saidAt w S.Server bs 1;
+      reports = saidAt w S.Server bs 2;
     }
 leftAfter w S.Entry bs l =
     record { begun = l .begun; edition = l .edition; servers = l .servers; entries = l .entries - 1; notes = l .notes; reports = l .reports }
@@ -115,13 +115,13 @@ module _ (knows : List Edition) where
   unfoldable pub isNext : Sort → ℕ → List ℕ → Bool
   isNext k n line =
       let m = editionFor k n (bytesOf line) in
-      isKnown knows m && isFrame (numbered knows m .widths) k line
+      isKnown knows m && isFrame (editionNumbered knows m .widths) k line
 
   -- at a line feed, by what is due
   unfoldable pub endedAs : Due → Shape → Shape
   endedAs (Frame k) s =
       let line = shapeHeld s in
-      cond (isNext k (s .left .edition) line) (nextLine (numbered knows (editionFor k (s .left .edition) (bytesOf line)) .widths) k (bytesOf line) s) (brokenAt s)
+      cond (isNext k (s .left .edition) line) (nextLine (editionNumbered knows (editionFor k (s .left .edition) (bytesOf line)) .widths) k (bytesOf line) s) (brokenAt s)
   endedAs End s = brokenAt s
 
   abbrev pub lineEndedFor : Shape → Shape

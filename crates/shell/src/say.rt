@@ -126,7 +126,9 @@ pub(crate) fn misshapen(s: Shape) {
     let first = first_line(s);
     if first.unknown {
         number(b" names edition ", first.edition as usize);
-        say(b", which this program doesn't know: it is newer than the program, or there is none; editions 1 and 2 are known\n");
+        say(
+            b", which this program doesn't know: it is newer than the program, or there is none; editions 1 and 2 are known\n",
+        );
         return;
     }
     let broken = s.broken;

@@ -151,7 +151,10 @@ fn of_told(edition: u8, count: usize, of: OfTold) {
         OfTold::Length(n) => {
             number(b": its length is ", n as usize);
             number(b", but edition ", edition as usize);
-            number(b" has positions up to ", saved::limits_of(edition).positions);
+            number(
+                b" has positions up to ",
+                saved::limits_of(edition).positions,
+            );
         }
     }
 }

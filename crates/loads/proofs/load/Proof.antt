@@ -9,7 +9,7 @@ use Rattle.steps.specs.declared.Outcome.{Outcome}
 use Rattle.steps.specs.declared.Refusal.the-variants.{NotAFrame, IllFormed}
 use Rattle.steps.specs.Answers.{refusingAll}
 use Rattle.saved.specs.Layout.{Widths}
-use Rattle.saved.specs.Editions.{widths1, editions, isKnown, numbered, hasForm}
+use Rattle.saved.specs.Editions.{widths1, editions, isKnown, editionNumbered, hasForm}
 use Rattle.saved.specs.Saved.{savedAs}
 use Rattle.saved.specs.Shape.{namedBy, shaped}
 use Rattle.saved.proofs.Lawful.{both-same}
@@ -42,17 +42,17 @@ module _ (c : Cluster) (text : List ℕ) where
   no-shape e = rw e
 
   by-text : {n : ℕ} {d : Cluster} {b : Bool} → shaped text ≡ true → n ≡ namedBy text → d ≡ decodedIn widths1 text
-      → b ≡ (isKnown editions n && (hasForm (numbered editions n) d && sameText (savedAs (numbered editions n) d) text)) → cond b (loaded d) (refusingAll c IllFormed) ≡ loadOf c text
+      → b ≡ (isKnown editions n && (hasForm (editionNumbered editions n) d && sameText (savedAs (editionNumbered editions n) d) text)) → cond b (loaded d) (refusingAll c IllFormed) ≡ loadOf c text
   unfolding loadFor
   by-text {n} {d} {b} e m p f =
       ap (λ (x : Bool). cond x (loaded d) (refusingAll c IllFormed)) f
       ∙ ap (λ (k : ℕ). gives (isKnown editions k) k d) m
       ∙ ap (λ (x : Bool). gives x (namedBy text) d) (shaped-known editions text e)
       ∙ ap (gives true (namedBy text)) (p ∙ ap (λ (w : Widths). decodedIn w text) (sym (both-same (namedBy text))))
-      ∙ rw e (both (hasForm (numbered editions (namedBy text)) _) (sameText (savedAs (numbered editions (namedBy text)) _) text) (loaded _) (refusingAll c IllFormed))
+      ∙ rw e (both (hasForm (editionNumbered editions (namedBy text)) _) (sameText (savedAs (editionNumbered editions (namedBy text)) _) text) (loaded _) (refusingAll c IllFormed))
     where
       gives : Bool → ℕ → Cluster → Outcome
-      gives x k y = cond (x && (hasForm (numbered editions k) y && sameText (savedAs (numbered editions k) y) text)) (loaded y) (refusingAll c IllFormed)
+      gives x k y = cond (x && (hasForm (editionNumbered editions k) y && sameText (savedAs (editionNumbered editions k) y) text)) (loaded y) (refusingAll c IllFormed)
 
       both : (x y : Bool) (o q : Outcome) → cond (x && y) o q ≡ cond x (cond y o q) q
       both true y o q = refl

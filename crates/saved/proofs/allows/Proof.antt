@@ -8,12 +8,12 @@ use Rattle.base.specs.Numbers.{every}
 use Rattle.base.proofs.Bools.{said-no, said-yes}
 use Rattle.base.proofs.Every.{every-none, every-more, every-fails}
 use Rattle.cluster.specs.Servers.{mostServers, serverAt}
-use Rattle.saved.specs.Editions.{editions, numbered, allowsServer, allows}
+use Rattle.saved.specs.Editions.{editions, editionNumbered, allowsServer, allows}
 use Rattle.saved.proofs.allows.Statement.{statement}
 use Rattle.saved.proofs.allows.Tie as tie
 
 abbrev Inv-loop : tie.InvT-loop
-Inv-loop edition c i₀ i = (i ≤ mostServers) × (every i (λ j. allowsServer (numbered editions edition) (serverAt c j)) ≡ true)
+Inv-loop edition c i₀ i = (i ≤ mostServers) × (every i (λ j. allowsServer (editionNumbered editions edition) (serverAt c j)) ≡ true)
 
 abbrev μ-loop : tie.MeasureT-loop
 μ-loop edition c i₀ i = mostServers - i

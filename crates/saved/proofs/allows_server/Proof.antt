@@ -10,7 +10,7 @@ use Rattle.base.proofs.Bools.{said-no, said-yes}
 use Rattle.log.specs.Logs.{kept, lengthOf}
 use Rattle.cluster.specs.declared.Server.{Server}
 use Rattle.saved.specs.declared.Limits.{Limits}
-use Rattle.saved.specs.Editions.{Edition, editions, numbered, limitsOf, notesWithin, reportsWithin, allowsServer}
+use Rattle.saved.specs.Editions.{Edition, editions, editionNumbered, limitsOf, notesWithin, reportsWithin, allowsServer}
 use Rattle.saved.proofs.allows_server.Statement.{statement}
 use Rattle.saved.proofs.allows_server.Tie as tie
 
@@ -38,7 +38,7 @@ module _ (e : Edition) (s : Server) {most : Limits} (m : most ≡ limitsOf e) {n
 abbrev limits : tie.After-length-of → Limits
 limits l = l .before .before .before .before .limits-of .result
 
-limits-are : (l : tie.After-length-of) → limits l ≡ limitsOf (numbered editions (l .before .before .before .before .before .args .edition))
+limits-are : (l : tie.After-length-of) → limits l ≡ limitsOf (editionNumbered editions (l .before .before .before .before .before .args .edition))
 limits-are l = l .before .before .before .before .limits-of .ensures
 
 limits-of-requires : tie.Need-limits-of-requires

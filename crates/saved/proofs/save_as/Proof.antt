@@ -14,7 +14,7 @@ use Rattle.lines.specs.Texts.{placed}
 use Rattle.saved.specs.declared.Saved.{Saved}
 use Rattle.saved.specs.declared.Saved.the-variants.{Text, NoRoom, Refused}
 use Rattle.saved.specs.Layout.{Widths, firstFrame}
-use Rattle.saved.specs.Editions.{widths1, editions, isKnown, numbered, hasForm}
+use Rattle.saved.specs.Editions.{widths1, editions, isKnown, editionNumbered, hasForm}
 use Rattle.saved.specs.Saved.{allFrames, framesOf, textOf, savedAs}
 use Rattle.saved.specs.Written.{Written, longest, savedAsOf, savedAsOut}
 use Rattle.saved.proofs.Texts.{text-length}
@@ -25,7 +25,7 @@ use borrow.Author.Needs.{needs}
 use Rattle.saved.proofs.save_as.Statement.{statement}
 use Rattle.saved.proofs.save_as.Tie as tie
 
-form-formed : (n : ℕ) (c : Cluster) → hasForm (numbered editions n) c ≡ true → wellFormed c ≡ true
+form-formed : (n : ℕ) (c : Cluster) → hasForm (editionNumbered editions n) c ≡ true → wellFormed c ≡ true
 unfolding hasForm
 form-formed n c h = and-left _ _ h
 
@@ -39,11 +39,11 @@ module _ (n : ℕ) (c : Cluster) (out : List ℕ) where
   not-known k = (rw k, rw k)
 
   module _ (k : isKnown editions n ≡ true) where
-    no-form : hasForm (numbered editions n) c ≡ false → Gives (Refused IllFormed) out
+    no-form : hasForm (editionNumbered editions n) c ≡ false → Gives (Refused IllFormed) out
     unfolding savedAsOf savedAsOut
     no-form e = (rw (k, e), rw (k, e))
 
-    module _ (e : hasForm (numbered editions n) c ≡ true) where
+    module _ (e : hasForm (editionNumbered editions n) c ≡ true) where
       no-room : length out < longest → Gives NoRoom out
       unfolding savedAsOf savedAsOut
       no-room h = (rw (k, e, lt-ltb (length out) longest h), rw (k, e, lt-ltb (length out) longest h))
@@ -54,10 +54,10 @@ module _ (n : ℕ) (c : Cluster) (out : List ℕ) where
       all-written {f} {out′ = out′} {r = r} h first v rest =
           let all = allFrames widths1 (take (c .count) (c .servers)) in
           let w : Written out 0 out′ r (firstFrame widths1 n (c .count) ∷ all) = subst (λ (x : List ℕ). Written out 0 out′ r (x ∷ all)) first (written-more v rest) in
-          let same : firstFrame widths1 n (c .count) ∷ all ≡ framesOf (numbered editions n) c =
+          let same : firstFrame widths1 n (c .count) ∷ all ≡ framesOf (editionNumbered editions n) c =
           ap (λ (m : ℕ). firstFrame widths1 m (c .count) ∷ all) (sym (numbered-is editions n k))
-          ∙ ap (λ (x : Widths). firstFrame x (numbered editions n .number) (c .count) ∷ allFrames x (take (c .count) (c .servers))) (sym (both-same n)) in
-          let long : r ≡ length (savedAs (numbered editions n) c) = omega (arith, w .next, ap (λ (x : List (List ℕ)). length (textOf x)) same) in
+          ∙ ap (λ (x : Widths). firstFrame x (editionNumbered editions n .number) (c .count) ∷ allFrames x (take (c .count) (c .servers))) (sym (both-same n)) in
+          let long : r ≡ length (savedAs (editionNumbered editions n) c) = omega (arith, w .next, ap (λ (x : List (List ℕ)). length (textOf x)) same) in
           (rw (k, e, le-ltb (length out) longest h) (ap Text long), rw (k, e, le-ltb (length out) longest h) (w .buffer ∙ ap (λ (x : List (List ℕ)). placed out 0 (textOf x)) same))
 
 -- what is known of the edition and the record, after each test
@@ -67,7 +67,7 @@ start c = c .before .before .before .before .before
 known : (c : tie.Else1) → isKnown editions (c .before .before .before .args .edition) ≡ true
 known c = said-yes _ _ (c .before .is-known .ensures) (c .if1 .left)
 
-form : (c : tie.Else2) → hasForm (numbered editions (start c .args .edition)) (start c .args .c) ≡ true
+form : (c : tie.Else2) → hasForm (editionNumbered editions (start c .args .edition)) (start c .args .c) ≡ true
 form c = said-yes _ _ (c .before .has-form .ensures) (c .if2 .left)
 
 formed : (c : tie.Else2) → wellFormed (start c .args .c) ≡ true
