@@ -163,7 +163,7 @@ use borrow.Author.Tests.{le-ltb, lt-ltb, le-leb, ne-eqb}
 use native.Mathlib.Omega.{arith}
 use Rattle.saved.specs.declared.Saved.{Saved}
 use Rattle.saved.specs.declared.Saved.the-variants as saving
-use Rattle.saved.specs.Editions.{Edition, edition1, edition2, editions, newest, hasForm}
+use Rattle.saved.specs.Editions.{edition1, edition2, editions, newest, hasForm}
 use Rattle.saved.specs.Saved.{saveOf}
 use Rattle.saved.specs.Shape.{namedIn, shaped}
 use Rattle.saved.specs.Written.{longest, savedAsOf, savedAsOut, savedOf, savedOut}

@@ -35,7 +35,7 @@ use Rattle.saved.specs.declared.Sort.the-variants as S
 use Rattle.saved.specs.Layout.{Widths, numbersIn, saidAt}
 use Rattle.saved.specs.Written.{mostBytes}
 use Rattle.saved.proofs.Fields.{said-below}
-use Rattle.saved.proofs.Lawful.{BytesAt, Tells, Lawful}
+use Rattle.saved.proofs.Lawful.{BytesAt, ToldLawful, Lawful}
 use Rattle.loads.specs.declared.Draft.{Draft}
 use Rattle.loads.specs.Decoded.{headSaid, serverSaid, entrySaid, reportSaid, toldBy, counting, beginning, telling, withFrame, roomy, decodedBy, freshDraft, decodedIn}
 
@@ -92,7 +92,7 @@ module _ {w : Widths} (l : Lawful w) (bs : List ℕ) (b : BytesAt bs) where
   fits-entry-said =
       record { term = number-at S.Entry 0; key = l .key bs b; value = number-at S.Entry 2; time = record { p = number-at S.Entry 3; l = number-at S.Entry 4 } }
 
-  fits-report-said : (k : Sort) → Tells w k → FitsReport (reportSaid (numbersIn w k bs))
+  fits-report-said : (k : Sort) → ToldLawful w k → FitsReport (reportSaid (numbersIn w k bs))
   fits-report-said k t = record { who = t .who bs b; note = record { term = number-at k 1; last = number-at k 2; len = number-at k 3 } }
 
   -- ---- what a frame does

@@ -28,7 +28,7 @@ use Rattle.saved.specs.Editions.{Edition, edition1, edition2, editions, newest,
 use Rattle.saved.specs.Saved.{savedAs, saveOf}
 use Rattle.saved.specs.Shape.{namedIn, namedBy, shapedFirst, shapedFor}
 use Rattle.saved.proofs.Lawful.{Lawful, numbered-is}
-use Rattle.saved.proofs.Allowed.{newest-form}
+use Rattle.saved.proofs.Allowed.{form-formed, newest-form}
 use Rattle.shapes.proofs.Next.{Reads, reads-all, reads-old}
 use Rattle.loads.specs.Decoded.{decodedIn}
 use Rattle.loads.specs.Loads.{sameText, loaded, editionOf, decoded, loadRules, loadFor}
@@ -64,10 +64,6 @@ shaped-known knows text h = go (lines text) (and-right (eqb (getD text (length t
 allowed : (d : Cluster) → hasForm edition1 d ≡ true → allows edition1 d ≡ true
 unfolding hasForm
 allowed d h = and-right (wellFormed d) _ h
-
-pub form-formed : (e : Edition) (d : Cluster) → hasForm e d ≡ true → wellFormed d ≡ true
-unfolding hasForm
-form-formed e d h = and-left _ _ h
 
 module _ (knows : List Edition) (r : Reads knows) where
   module _ (text : List ℕ) where

@@ -1,8 +1,8 @@
--- The newest edition has a form for every well-formed record. Assumes nothing.
+-- The newest edition has a form for every well-formed record, and no edition has one for another. Assumes nothing.
 use mathlib.Core.Path.{_≡_, refl, ap}
 use mathlib.Core.Bool.{Bool, true, false, cond, _&&_}
 use mathlib.Core.Logic.{⊎-elim}
-use Prim.Native.Nat.{ℕ, _<_, _≤_}
+use Prim.Native.Nat.{ℕ, _≤_}
 use native.Mathlib.Omega.{arith}
 use borrow.Author.Tests.{leb-true, le-leb, eqb-true}
 use lib.Dec.{eqb, ltb, leb}
@@ -18,13 +18,13 @@ use Rattle.mail.specs.declared.Mail.{Mail}
 use Rattle.mail.specs.Reports.{noteOf}
 use Rattle.mail.specs.Queues.{queueLimit, reportAt}
 use Rattle.mail.specs.Mails.{noteSlots}
-use Rattle.mail.specs.Order.{isUnused, isUsed, noteOk, notesOk, slotOk, queueOk, mailOk}
+use Rattle.mail.specs.Order.{isUnused, noteOk, notesOk, slotOk, queueOk, mailOk}
 use Rattle.mail.proofs.Good.{note-good, used-good, unused-is}
 use Rattle.cluster.specs.declared.Server.{Server}
 use Rattle.cluster.specs.declared.Cluster.{Cluster}
 use Rattle.cluster.specs.Servers.{fewestServers, mostServers, serverAt}
 use Rattle.cluster.specs.WellFormed.{countedOk, zeroOk, serverOk, wellFormed}
-use Rattle.saved.specs.Editions.{newest, notesWithin, reportsWithin, allowsServer, allows, hasForm}
+use Rattle.saved.specs.Editions.{Edition, newest, notesWithin, reportsWithin, allowsServer, allows, hasForm}
 
 -- ---- lengths in mail
 
@@ -83,3 +83,8 @@ newest-form c = go (wellFormed c) (newest-allows c)
     go : (b : Bool) → (b ≡ true → allows newest c ≡ true) → (b && allows newest c) ≡ b
     go true h = h refl
     go false h = refl
+
+-- a record that some edition has a form for is well formed
+pub form-formed : (e : Edition) (c : Cluster) → hasForm e c ≡ true → wellFormed c ≡ true
+unfolding hasForm
+form-formed e c h = and-left _ _ h

@@ -34,7 +34,7 @@ abbrev pub BytesAt : List ℕ → Type 0
 BytesAt bs = (i : ℕ) → byteAt bs i < byte
 
 -- a frame of a note or of a report
-pub record Tells (w : Widths) (k : Sort) : Type 0 where
+pub record ToldLawful (w : Widths) (k : Sort) : Type 0 where
   pub long : length (w k) ≡ 4
   pub room : (who : ℕ) (n : Note) → who < byte → FitsNote n → Room (w k) (toldNumbers who n)
   pub who : (bs : List ℕ) → BytesAt bs → saidAt w k bs 0 < byte
@@ -49,8 +49,8 @@ pub record Lawful (w : Widths) : Type 0 where
   pub entry-long : length (w S.Entry) ≡ 5
   pub entry : (e : Entry) → FitsEntry e → Room (w S.Entry) (entryNumbers e)
   pub key : (bs : List ℕ) → BytesAt bs → saidAt w S.Entry bs 1 < byte
-  pub note : Tells w S.Note
-  pub report : Tells w S.Report
+  pub note : ToldLawful w S.Note
+  pub report : ToldLawful w S.Report
 
 -- ---- the fields of editions 1 and 2
 
@@ -72,8 +72,8 @@ server1 s f k =
     omega (arith, k .entries) ▸ omega (arith, notes) ▸ omega (arith, k .reports) ▸ omega (arith, k .source) ▸ role-byte (s .head .primary)
     ▸ h .term ▸ omega (arith, k .commit) ▸ h .wall ▸ h .time .p ▸ h .time .l ▸ tt
 
-tells1 : Tells widths1 S.Note
-tells1 = record { long = refl; room = λ who n h f. h ▸ f .term ▸ f .last ▸ f .len ▸ tt; who = λ bs b. b 1 }
+told1 : ToldLawful widths1 S.Note
+told1 = record { long = refl; room = λ who n h f. h ▸ f .term ▸ f .last ▸ f .len ▸ tt; who = λ bs b. b 1 }
 
 pub lawful1 : Lawful widths1
 lawful1 =
@@ -87,8 +87,8 @@ lawful1 =
       entry-long = refl;
       entry = λ e f. f .term ▸ f .key ▸ f .value ▸ f .time .p ▸ f .time .l ▸ tt;
       key = λ bs b. b 3;
-      note = tells1;
-      report = record { long = refl; room = tells1 .room; who = tells1 .who };
+      note = told1;
+      report = record { long = refl; room = told1 .room; who = told1 .who };
     }
 
 -- ---- editions by their numbers

@@ -27,7 +27,7 @@ use Rattle.shapes.specs.declared.Due.the-variants.{Frame}
 use Rattle.shapes.specs.Walk.{keptChars, frameReader, framePush, freshShape, dueOf, editionFor, shapeHeld, withReader, shapePush, brokenAt, nextLine, isNext, endedAs, lineEndedFor, shapeAfter, walkedFor, isEnd, isShaped, AtOnce}
 use Rattle.shapes.proofs.Next.{Reads, StandsFor, held-next, held-bytes}
 use Rattle.shapes.proofs.Ahead.{Tells, first, over, next, tells}
-use Rattle.shapes.proofs.Told.{after-broken, after-feed, after-character, broken-stays, broken-told}
+use Rattle.shapes.proofs.Told.{after-feed, after-character, broken-stays, broken-told}
 
 -- ---- it stays
 

@@ -1,14 +1,14 @@
 -- The line that is held is the frame that is due exactly where the characters are that it stands for. Assumes nothing.
 use mathlib.Core.Path.{_≡_, sym, ap, subst, _∙_}
-use mathlib.Core.Bool.{Bool, true, false, _&&_, false≢true}
+use mathlib.Core.Bool.{true, false, _&&_, false≢true}
 use mathlib.Core.List.{List, [], _∷_}
 use mathlib.Core.Logic.{⊎-elim}
-use Prim.Native.Nat.{ℕ, _*_, _≤_, _<_}
+use Prim.Native.Nat.{ℕ, _<_}
 use native.Mathlib.Omega.{arith}
 use lib.ListN.{length}
 use Rattle.base.proofs.Bools.{and-no, and-left, and-right}
 use Rattle.base.proofs.Facts.{lt-or-le}
-use Rattle.hex.specs.Lines.{chars, bytesOf}
+use Rattle.hex.specs.Lines.{bytesOf}
 use Rattle.hex.proofs.Places.{hex-length}
 use Rattle.words.proofs.Framed.{is-frame, framed-other}
 use Rattle.lines.proofs.Held as Held

@@ -31,13 +31,14 @@ use Rattle.saved.specs.Shape.{namedBy}
 use Rattle.saved.specs.Written.{longest}
 use Rattle.saved.proofs.Lawful.{both-same}
 use Rattle.saved.proofs.Frames.{saved-length}
+use Rattle.saved.proofs.Allowed.{form-formed}
 use Rattle.shapes.specs.declared.Shape.{Shape}
 use Rattle.shapes.specs.Walk.{walked}
 use Rattle.shapes.proofs.Next.{reads-all}
 use Rattle.shapes.proofs.Told.{walked-append}
 use Rattle.loads.specs.Loads.{loaded, editionOf, loadOf}
 use Rattle.loads.specs.Statements.{IsSaved}
-use Rattle.loads.proofs.Loads.{form-formed, loads-exactly, loads-or-refuses}
+use Rattle.loads.proofs.Loads.{loads-exactly, loads-or-refuses}
 use Rattle.lines.specs.declared.End.{End}
 use Rattle.lines.specs.declared.End.the-variants.{More, Input, CannotRead}
 use Rattle.shell.specs.declared.saves.Walked.{Walked}

@@ -6,7 +6,7 @@ use Prim.Native.Nat.{ℕ, _<_, _≤_}
 use native.Mathlib.Omega.{arith}
 use borrow.Author.Tests.{lt-ltb, le-ltb}
 use lib.ListN.{length, take}
-use Rattle.base.proofs.Bools.{said-no, said-yes, and-left}
+use Rattle.base.proofs.Bools.{said-no, said-yes}
 use Rattle.cluster.specs.declared.Cluster.{Cluster}
 use Rattle.cluster.specs.WellFormed.{wellFormed}
 use Rattle.steps.specs.declared.Refusal.the-variants.{IllFormed, OutOfRange}
@@ -20,14 +20,11 @@ use Rattle.saved.specs.Written.{Written, longest, savedAsOf, savedAsOut}
 use Rattle.saved.proofs.Texts.{text-length}
 use Rattle.saved.proofs.Lawful.{both-same, numbered-is}
 use Rattle.saved.proofs.Frames.{at-most-seven}
+use Rattle.saved.proofs.Allowed.{form-formed}
 use Rattle.saved.proofs.Going.{written-length, written-more}
 use borrow.Author.Needs.{needs}
 use Rattle.saved.proofs.save_as.Statement.{statement}
 use Rattle.saved.proofs.save_as.Tie as tie
-
-form-formed : (n : ℕ) (c : Cluster) → hasForm (editionNumbered editions n) c ≡ true → wellFormed c ≡ true
-unfolding hasForm
-form-formed n c h = and-left _ _ h
 
 -- the result and the buffer, in each case
 module _ (n : ℕ) (c : Cluster) (out : List ℕ) where
@@ -71,7 +68,7 @@ form : (c : tie.Else2) → hasForm (editionNumbered editions (start c .args .edi
 form c = said-yes _ _ (c .before .has-form .ensures) (c .if2 .left)
 
 formed : (c : tie.Else2) → wellFormed (start c .args .c) ≡ true
-formed c = form-formed (start c .args .edition) (start c .args .c) (form c)
+formed c = form-formed _ (start c .args .c) (form c)
 
 is-known-requires : tie.Need-is-known-requires
 is-known-requires c κs = search needs
