@@ -152,7 +152,7 @@ module _ {w : Widths} (l : Lawful w) where
       announcing : ℕ → ℕ → ℕ → Bool
       announcing k m l = framedBy w ((replicate k S.Entry ++ (replicate m S.Note ++ replicate l S.Report)) ++ ss) (after ++ fs)
 
-      entries : s .log .len ≡ length (kept (s .log))
+      entries : byteAt (serverNumbers s) 0 ≡ length (kept (s .log))
       entries = sym (tidy-length (x .good .log .tidy))
 
       used : usedNotes (s .mail) ≡ length (noteFrames w 0 (s .mail .notes))
