@@ -7,6 +7,7 @@ use Prim.Native.Nat.{ℕ}
 use Rattle.clock.specs.Times.{isBefore}
 use Rattle.log.specs.declared.Entry.{Entry}
 use Rattle.log.specs.Entries.{entryAt, hasEntry, latestValue}
+use Rattle.log.specs.Rows.{latestAfter}
 use Rattle.log.specs.Logs.{mayAsk}
 use Rattle.cluster.specs.Servers.{freshServer}
 use Rattle.steps.specs.declared.Answer.{Answer}
@@ -19,7 +20,7 @@ use Rattle.reads.specs.NewestRead.{newestReadOf}
 use Rattle.apart.proofs.Things.{at, x, z, server, holder, covering}
 
 pub reads-only-committed-entries : localReadOf (holder 1 (x ∷ [])) 5 (at 0 0) .answer ≡ Value 41 (at 1 0)
-unfolding highest isBefore entryAt latestValue
+unfolding isBefore entryAt latestAfter
 reads-only-committed-entries = refl
 
 pub local-read-answers-too-early : localReadOf freshServer 5 (at 0 1) .answer ≡ Refused NotYet
@@ -27,7 +28,7 @@ unfolding isBefore entryAt
 local-read-answers-too-early = refl
 
 pub majority-reads-the-whole-log : majorityReadOf (holder 1 (x ∷ [])) 5 (at 0 0) .answer ≡ Value 0 (at 0 0)
-unfolding highest isBefore entryAt latestValue
+unfolding isBefore entryAt
 majority-reads-the-whole-log = refl
 
 pub majority-waits-for-the-applied-time : majorityReadOf (covering (x ∷ z ∷ [])) 5 (at 2 0) .answer ≡ Refused NotYet

@@ -4,11 +4,12 @@ use mathlib.Core.Bool.{true, false}
 use mathlib.Core.List.{[], _∷_}
 use Prim.Native.Nat.{min}
 use lib.ListN.{replicate}
-use Rattle.base.specs.Numbers.{every, count}
+use Rattle.base.specs.Numbers.{every, count, highest}
 use Rattle.base.specs.Lists.{eachFrom}
 use Rattle.clock.specs.Times.{zeroTime, isBefore, sameTime}
-use Rattle.log.specs.Entries.{sameEntry, entryAt}
+use Rattle.log.specs.Entries.{sameEntry, entryAt, latestValue}
 use Rattle.log.specs.Order.{entryOk, follows, placeOk, inOrder, restZero, isEmptyLog, logOk}
+use Rattle.log.specs.Rows.{rowOk, rowsOk}
 use Rattle.mail.specs.Reports.{zeroNote, noteOf}
 use Rattle.mail.specs.Mails.{zeroMail, noteAt, withSource}
 use Rattle.mail.specs.Order.{isUnused, isUsed, noteOk, notesOk, slotOk, queueOk, sourceOk, mailOk}
@@ -104,15 +105,15 @@ unfolding sameTime sameEntry restZero isEmptyLog zeroOk
 zero-without-the-time = refl
 
 pub server-ok-exchanges-the-cases : serverOk 2 0 freshServer ≡ true
-unfolding every isBefore sameTime sameEntry entryAt inOrder restZero logOk isUnused isUsed noteOk notesOk slotOk queueOk sourceOk mailOk numbersOk countedOk serverOk
+unfolding rowsOk rowOk latestValue highest every isBefore sameTime sameEntry entryAt inOrder restZero logOk isUnused isUsed noteOk notesOk slotOk queueOk sourceOk mailOk numbersOk countedOk serverOk
 server-ok-exchanges-the-cases = refl
 
 pub server-ok-counts-every-server : serverOk 2 2 freshServer ≡ false
-unfolding sameTime sameEntry restZero isEmptyLog zeroOk serverOk
+unfolding rowsOk rowOk latestValue entryAt highest every sameTime sameEntry restZero isEmptyLog zeroOk serverOk
 server-ok-counts-every-server = refl
 
 pub server-ok-without-its-mail : serverOk 2 0 (withMail freshServer (withSource zeroMail 1)) ≡ false
-unfolding every isBefore sameTime sameEntry entryAt inOrder restZero logOk isUnused isUsed noteOk notesOk slotOk queueOk sourceOk mailOk numbersOk countedOk serverOk
+unfolding rowsOk rowOk latestValue highest every isBefore sameTime sameEntry entryAt inOrder restZero logOk isUnused isUsed noteOk notesOk slotOk queueOk sourceOk mailOk numbersOk countedOk serverOk
 server-ok-without-its-mail = refl
 
 pub well-formed-of-count-8 : wellFormed (record { count = 8; servers = replicate 7 freshServer }) ≡ false
@@ -120,7 +121,7 @@ unfolding wellFormed
 well-formed-of-count-8 = refl
 
 pub well-formed-by-counted-servers : wellFormed (withServer F2 2 freshServer) ≡ false
-unfolding every eachFrom isBefore sameTime sameEntry entryAt inOrder restZero isEmptyLog logOk isUnused isUsed noteOk notesOk slotOk queueOk sourceOk mailOk startedOf numbersOk countedOk zeroOk serverOk wellFormed
+unfolding latestValue highest every eachFrom isBefore sameTime sameEntry entryAt inOrder restZero isEmptyLog logOk isUnused isUsed noteOk notesOk slotOk queueOk sourceOk mailOk startedOf numbersOk countedOk zeroOk rowOk rowsOk serverOk wellFormed
 well-formed-by-counted-servers = refl
 
 pub member-from-the-top : member 1 0 ≡ true

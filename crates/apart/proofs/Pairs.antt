@@ -6,6 +6,7 @@ use Prim.Native.Nat.{max}
 use lib.ListN.{replicate}
 use Rattle.clock.specs.Times.{zeroTime, isBefore, sameTime, laterOf}
 use Rattle.log.specs.Entries.{sameEntry, entryAt, equalAt, commonBeginning}
+use Rattle.log.specs.Rows.{zeroRow}
 use Rattle.log.specs.Logs.{emptyLog}
 use Rattle.cluster.specs.Servers.{withMail, freshServer}
 use Rattle.steps.specs.declared.Sends.the-variants.{To}
@@ -42,11 +43,11 @@ pub hears-lowers-the-time : hearsOf (timed (at 2 0)) (timed (at 1 0)) .server .h
 unfolding isBefore laterOf heardOf
 hears-lowers-the-time = refl
 
-pub pulls-the-lesser-commit-point : tookOf freshServer (covering (x ∷ [])) (log (x ∷ [])) .head .commit ≡ 1
+pub pulls-the-lesser-commit-point : tookOf freshServer (covering (x ∷ [])) (log (x ∷ [])) zeroRow .head .commit ≡ 1
 unfolding tookOf
 pulls-the-lesser-commit-point = refl
 
-pub took-takes-the-role : tookOf freshServer (leader []) emptyLog .head .primary ≡ false
+pub took-takes-the-role : tookOf freshServer (leader []) emptyLog zeroRow .head .primary ≡ false
 unfolding tookOf
 took-takes-the-role = refl
 

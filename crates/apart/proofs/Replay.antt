@@ -4,11 +4,12 @@ use mathlib.Core.Bool.{Bool, true, false}
 use mathlib.Core.List.{List, [], _∷_, _++_, append-nil}
 use Prim.Native.Nat.{ℕ}
 use lib.ListN.{replicate}
-use Rattle.base.specs.Numbers.{every, count}
+use Rattle.base.specs.Numbers.{every, count, highest}
 use Rattle.base.specs.Lists.{eachFrom}
 use Rattle.clock.specs.Times.{isBefore, sameTime, laterOf}
-use Rattle.log.specs.Entries.{sameEntry, entryAt}
+use Rattle.log.specs.Entries.{sameEntry, entryAt, latestValue}
 use Rattle.log.specs.Order.{inOrder, restZero, isEmptyLog, logOk}
+use Rattle.log.specs.Rows.{rowOk, rowsOk}
 use Rattle.cluster.specs.Servers.{freshServer, zeroCluster, serverAt}
 use Rattle.mail.specs.Order.{isUnused, isUsed, noteOk, notesOk, slotOk, queueOk, sourceOk, mailOk}
 use Rattle.cluster.specs.WellFormed.{numbersOk, countedOk, zeroOk, serverOk, wellFormed}
@@ -85,7 +86,7 @@ plan-lets-a-start-look = refl
 pub the-wrong-server-is-replaced :
     serverAt (fedOf (record { cluster = two freshServer (holder 1 []); reader = reader (writeStep (Hears 0 1)) 26 false }) (10 ∷ []) 19 .session .cluster) 0 .head .term
     ≡ 1
-unfolding every count eachFrom isBefore sameTime laterOf sameEntry entryAt inOrder restZero isEmptyLog logOk isUnused isUsed noteOk notesOk slotOk queueOk sourceOk mailOk numbersOk countedOk zeroOk serverOk wellFormed digitOf charOf byteOf allHex highOf lowOf wordOf framed bytesOfFrame frameOf stepOfFrame isClean stepIn heardOf delivered rowOf coreOf stepOf respond answerTo lineOf lineHeld byteAfter after said fedOf
+unfolding every count eachFrom isBefore sameTime laterOf sameEntry entryAt inOrder restZero isEmptyLog logOk isUnused isUsed noteOk notesOk slotOk queueOk sourceOk mailOk numbersOk countedOk zeroOk highest latestValue rowOk rowsOk serverOk wellFormed digitOf charOf byteOf allHex highOf lowOf wordOf framed bytesOfFrame frameOf stepOfFrame isClean stepIn heardOf delivered rowOf coreOf stepOf respond answerTo lineOf lineHeld byteAfter after said fedOf
 the-wrong-server-is-replaced = refl
 
 pub rest-without-line-feed-is-dropped : isEmpty (pushOf freshReader 48) ≡ false

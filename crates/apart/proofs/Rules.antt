@@ -6,6 +6,7 @@ use Rattle.base.specs.Numbers.{every, count, highest}
 use Rattle.base.specs.Lists.{eachFrom}
 use Rattle.clock.specs.Times.{isBefore}
 use Rattle.log.specs.Entries.{entryAt, latestValue}
+use Rattle.log.specs.Rows.{latestAfter}
 use Rattle.mail.specs.Queues.{queued}
 use Rattle.cluster.specs.declared.Server.{Server}
 use Rattle.cluster.specs.Servers.{freshServer, zeroCluster, startedOf, serverAt}
@@ -32,7 +33,7 @@ unfolding oneOf
 one-does-nothing = refl
 
 pub one-takes-10-for-11 : oneOf 2 (holder 1 (x ∷ [])) (holder 1 (x ∷ [])) (LocalRead 0 5 (at 0 0)) .answer ≡ A.Value 41 (at 1 0)
-unfolding highest isBefore entryAt latestValue oneOf
+unfolding isBefore entryAt latestAfter oneOf
 one-takes-10-for-11 = refl
 
 pub single-of-any-number : singleOf F2 2 (Restarts 2) .answer ≡ A.Refused OutOfRange

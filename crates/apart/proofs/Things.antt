@@ -9,6 +9,7 @@ use Rattle.log.specs.declared.Entry.{Entry}
 use Rattle.log.specs.declared.Log.{Log}
 use Rattle.log.specs.Entries.{zeroEntry}
 use Rattle.log.specs.Logs.{logLimit}
+use Rattle.log.specs.Rows.{rowsOf}
 use Rattle.mail.specs.declared.Report.{Report}
 use Rattle.mail.specs.declared.Note.{Note}
 use Rattle.mail.specs.declared.Queue.{Queue}
@@ -78,7 +79,12 @@ holding rs = withQueue zeroMail (queue rs)
 -- a fresh server but for its term, role, commit point, wall clock, cluster time and log
 abbrev pub server : ℕ → Bool → ℕ → ℕ → Time → List Entry → Server
 server term primary commit wall time es =
-    withLog (withHead freshServer (record { term = term; primary = primary; commit = commit; wall = wall; time = time })) (log es)
+    record {
+      head = record { term = term; primary = primary; commit = commit; wall = wall; time = time };
+      log = log es;
+      mail = zeroMail;
+      rows = rowsOf (log es) commit;
+    }
 
 -- a fresh server but for its term and log
 abbrev pub holder : ℕ → List Entry → Server

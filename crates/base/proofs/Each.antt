@@ -1,11 +1,11 @@
--- Laws of `each`, for a loop that replaces every element by a function of it and its number. Assumes nothing.
+-- Laws of `each`, for a loop that replaces every element by a function of it and its number, and of `map`. Assumes nothing.
 use mathlib.Core.Path.{_≡_, refl, ap, sym, _∙_}
-use mathlib.Core.List.{List, [], _∷_}
+use mathlib.Core.List.{List, [], _∷_, map}
 use Prim.Native.Nat.{ℕ, zero, suc, _+_, _<_, _≤_}
 use native.Mathlib.Nat.{not-suc-le-zero, le-of-suc-le-suc, add-zero, add-suc, suc-add}
 use native.Mathlib.Numerals.{add-one}
 use native.Mathlib.Omega.{arith}
-use lib.ListN.{length, getD, set}
+use lib.ListN.{length, getD, set, take}
 use Rattle.base.specs.Lists.{eachFrom, each}
 
 module _ {A : Type 0} where
@@ -61,3 +61,16 @@ module _ {A : Type 0} where
   -- the element of a number is f of it
   pub each-at : (f : ℕ → A → A) (xs : List A) (i : ℕ) (d : A) → i < length xs → getD (each f xs) i d ≡ f i (getD xs i d)
   each-at f xs i d h = eachFrom-at f 0 xs i d h ∙ ap (λ (k : ℕ). f k (getD xs i d)) (omega arith)
+
+-- ---- a list with every element changed the same way
+
+module _ {A B : Type 0} (f : A → B) where
+  pub taken-map : (n : ℕ) (xs : List A) → map f (take n xs) ≡ take n (map f xs)
+  taken-map zero xs = refl
+  taken-map (suc n) [] = refl
+  taken-map (suc n) (x ∷ xs) = ap (λ (ys : List B). f x ∷ ys) (taken-map n xs)
+
+  pub map-at : (xs : List A) (i : ℕ) (d : A) (e : B) → i < length xs → getD (map f xs) i e ≡ f (getD xs i d)
+  map-at [] i d e h = absurd (not-suc-le-zero h)
+  map-at (x ∷ xs) zero d e h = refl
+  map-at (x ∷ xs) (suc i) d e h = map-at xs i d e (le-of-suc-le-suc h)

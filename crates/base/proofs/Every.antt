@@ -1,7 +1,7 @@
 -- Laws of `every`, for a loop that stops at the first number that fails. Assumes nothing.
 use mathlib.Core.Path.{_≡_, refl}
 use mathlib.Core.Logic.{⊎-elim}
-use mathlib.Core.Bool.{Bool, true, false}
+use mathlib.Core.Bool.{Bool, true, false, _&&_}
 use Prim.Native.Nat.{ℕ, zero, suc, _+_, _<_}
 use native.Mathlib.Nat.{not-suc-le-zero, le-of-suc-le-suc, eq-or-lt-of-le}
 use native.Mathlib.Numerals.{add-one}
@@ -35,3 +35,12 @@ module _ (p : ℕ → Bool) where
   unfolding every
   every-all zero h = refl
   every-all (suc n) h = and-both _ _ (every-all n (λ i l. h i (omega arith))) (h n (omega arith))
+
+-- tests that agree below n
+pub every-same : (p q : ℕ → Bool) (n : ℕ) → ((i : ℕ) → i < n → p i ≡ q i) → every n p ≡ every n q
+unfolding every
+every-same p q zero h = refl
+every-same p q (suc n) h =
+    let a = every-same p q n (λ i l. h i (omega arith)) in
+    let b = h n (omega arith) in
+    λ k. a k && b k

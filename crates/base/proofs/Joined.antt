@@ -7,7 +7,7 @@ use native.Mathlib.Nat.{le-of-lt}
 use native.Mathlib.Numerals.{add-one}
 use native.Mathlib.Omega.{arith}
 use lib.ListN.{length, getD, set, take, drop, length-take, length-drop, length-append, List·getD-append, take-append-drop, drop-of-length-le, replicate, length-replicate, getD-replicate}
-use lib.Seq.{drop-cons, take-suc, set-at, append-snoc, length-take-le, take-all, getD-take, getD-drop, getD-append-add, sets, sets-eq, ext-getD}
+use lib.Seq.{drop-cons, take-suc, set-at, append-snoc, length-take-le, take-all, getD-take, getD-drop, getD-append-add, take-append-le, take-take, sets, sets-eq, ext-getD}
 use Rattle.base.specs.Lists.{joinedAt}
 use Rattle.base.proofs.Facts.{lt-or-le}
 
@@ -43,6 +43,10 @@ module _ {A : Type 0} where
         let f : k + (i - k) ≡ i = omega arith in
         ap (λ (n : ℕ). getD (joinedAt k xs ys) n d) e ∙ getD-append-add (take k xs) (drop k ys) (i - k) d ∙ getD-drop k ys (i - k) d
         ∙ ap (λ (n : ℕ). getD ys n d) f
+
+  -- up to the join, and as far as wanted, it is the first list
+  pub joined-first : (n k : ℕ) (xs ys : List A) → n ≤ k → k ≤ length xs → take n (joinedAt k xs ys) ≡ take n xs
+  joined-first n k xs ys l h = take-append-le n (take k xs) (drop k ys) (omega (arith, length-take-le k xs h)) ∙ take-take n k xs l
 
   -- where the first k agree, the join is the second list
   pub joined-same : (k : ℕ) (xs ys : List A) → take k xs ≡ take k ys → joinedAt k xs ys ≡ ys

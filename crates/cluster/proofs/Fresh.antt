@@ -18,6 +18,8 @@ use Rattle.log.specs.Logs.{logLimit, emptyLog}
 use Rattle.log.specs.Ranges.{FitsLog}
 use Rattle.log.proofs.Tidy.{tidy-empty}
 use Rattle.log.proofs.Orderly.{Orderly}
+use Rattle.log.proofs.Ranges.{fits-zero-rows}
+use Rattle.log.proofs.Rowed.{rows-of-good}
 use Rattle.cluster.specs.Servers.{mostServers, fewestServers, withWall, withHead, zeroHead, zeroServer, freshServer, pastServer, serverAt, startedOf, freshCluster, zeroCluster}
 use Rattle.mail.proofs.Kept.{zero-good}
 use Rattle.mail.proofs.Ranges.{fits-zero-mail}
@@ -53,6 +55,7 @@ fresh-good =
       commit-point = omega arith;
       wall-clock = omega arith;
       primary-term = λ p. not-both false p refl;
+      rows = rows-of-good emptyLog 0;
     }
 
 pub good-fresh : (n : ℕ) → fewestServers ≤ n → n ≤ mostServers → Good (freshCluster n)
@@ -86,7 +89,7 @@ unfolding startedOf
 fits-started n i = ⊎-elim (λ l. rw (lt-ltb i n l) (plain 1 (omega arith))) (λ l. rw (le-ltb i n l) (plain 0 (omega arith))) (lt-or-le i n)
   where
     plain : (w : ℕ) → w ≤ 1 → FitsServer (withHead zeroServer (withWall zeroHead w))
-    plain w h = record { head = record { term = omega arith; commit = omega arith; wall = omega arith; time = fits-zero-time }; log = fits-empty; mail = fits-zero-mail }
+    plain w h = record { head = record { term = omega arith; commit = omega arith; wall = omega arith; time = fits-zero-time }; log = fits-empty; mail = fits-zero-mail; rows = fits-zero-rows }
 
 pub fits-fresh : (n : ℕ) → n ≤ mostServers → Fits (freshCluster n)
 fits-fresh n h =

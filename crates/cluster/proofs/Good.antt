@@ -14,9 +14,11 @@ use Rattle.base.proofs.Facts.{lt-or-le}
 use Rattle.clock.specs.Times.{zeroTime, isBefore}
 use Rattle.clock.proofs.Order.{sameTime-eq, sameTime-refl}
 use Rattle.log.specs.Entries.{appliedTime}
-use Rattle.log.specs.Logs.{logLimit, live, lengthOf}
+use Rattle.log.specs.Logs.{logLimit, emptyLog, live, lengthOf}
 use Rattle.log.specs.Order.{isEmptyLog, logOk}
+use Rattle.log.specs.Rows.{rowsOf, rowsOk}
 use Rattle.log.proofs.Orderly.{LogGood, log-good, good-log, empty-log-is, is-empty-log}
+use Rattle.log.proofs.Rowed.{RowsGood, rows-good, good-rows, rows-of-good, rows-are}
 use Rattle.mail.specs.Mails.{zeroMail}
 use Rattle.mail.specs.Order.{mailOk}
 use Rattle.mail.proofs.Good.{MailGood, mail-good, good-mail}
@@ -36,13 +38,15 @@ pub record ServerGood (s : Server) : Type 0 where
   pub commit-point : s .head .commit ≤ lengthOf (s .log)
   pub wall-clock : 1 ≤ s .head .wall
   pub primary-term : s .head .primary ≡ true → 1 ≤ s .head .term
+  -- both its rows have what a walk finds
+  pub rows : RowsGood (s .rows) (s .log) (s .head .commit)
 
 not-is-true : (b : Bool) → b ≡ false → not b ≡ true
 not-is-true b e = rw e
 
-pub server-good : (s : Server) → length (s .log .entries) ≡ logLimit → countedOk s ≡ true → ServerGood s
+pub server-good : (s : Server) → length (s .log .entries) ≡ logLimit → rowsOk (s .rows) (s .log) (s .head .commit) ≡ true → countedOk s ≡ true → ServerGood s
 unfolding countedOk numbersOk
-server-good s slots h =
+server-good s slots r h =
     let h2 = and-right (logOk (s .head .term) (s .log)) _ h in
     let n = and-right (not (isBefore (s .head .time) (appliedTime (live (s .log))))) _ h2 in
     let n2 = and-right (leb (s .head .commit) (lengthOf (s .log))) _ n in
@@ -52,6 +56,7 @@ server-good s slots h =
       commit-point = leb-true (s .head .commit) (lengthOf (s .log)) (and-left _ _ n);
       wall-clock = leb-true 1 (s .head .wall) (and-left _ _ n2);
       primary-term = λ p. leb-true 1 (s .head .term) (rw p at (and-right (leb 1 (s .head .wall)) _ n2));
+      rows = rows-good r;
     }
 
 pub good-server : (s : Server) → ServerGood s → countedOk s ≡ true
@@ -68,30 +73,34 @@ good-server s g =
 
 -- ---- a server past the count
 
-pub zero-is : (s : Server) → length (s .log .entries) ≡ logLimit → zeroOk s ≡ true → s .mail ≡ zeroMail → s ≡ zeroServer
+pub zero-is : (s : Server) → FitsServer s → rowsOk (s .rows) (s .log) (s .head .commit) ≡ true → zeroOk s ≡ true → s .mail ≡ zeroMail → s ≡ zeroServer
 unfolding zeroOk
-zero-is s slots h told =
+zero-is s f rows h told =
     let h2 = and-right (isEmptyLog (s .log)) _ h in
     let h3 = and-right (eqb (s .head .term) 0) _ h2 in
     let h4 = and-right (not (s .head .primary)) _ h3 in
     let h5 = and-right (eqb (s .head .commit) 0) _ h4 in
-    let l = empty-log-is (s .log) slots (and-left _ _ h) in
+    let l = empty-log-is (s .log) (f .log .slots) (and-left _ _ h) in
     let t = eqb-true (s .head .term) 0 (and-left _ _ h2) in
     let p = not-true (s .head .primary) (and-left _ _ h3) in
     let k = eqb-true (s .head .commit) 0 (and-left _ _ h4) in
     let w = eqb-true (s .head .wall) 0 (and-left _ _ h5) in
     let m = sameTime-eq (s .head .time) zeroTime (and-right (eqb (s .head .wall) 0) _ h5) in
-    λ i. record { head = record { term = t i; primary = p i; commit = k i; wall = w i; time = m i }; log = l i; mail = told i }
+    let r = rows-are (f .rows) (rows-good rows) ∙ (λ i. rowsOf (l i) (k i)) in
+    λ i. record { head = record { term = t i; primary = p i; commit = k i; wall = w i; time = m i }; log = l i; mail = told i; rows = r i }
 
 pub is-zero : (s : Server) → s ≡ zeroServer → zeroOk s ≡ true
 unfolding zeroOk
 is-zero s e = ap zeroOk e ∙ rw (is-empty-log, sameTime-refl zeroTime)
 
-past-good : (i : ℕ) (s : Server) → FitsServer s → (zeroOk s && mailOk 0 i (s .mail)) ≡ true → s ≡ zeroServer
-past-good i s f h = zero-is s (f .log .slots) (and-left _ _ h) (zero-mail-is i (f .mail) (and-right (zeroOk s) _ h))
+past-good : (i : ℕ) (s : Server) → FitsServer s → rowsOk (s .rows) (s .log) (s .head .commit) ≡ true → (zeroOk s && mailOk 0 i (s .mail)) ≡ true → s ≡ zeroServer
+past-good i s f r h = zero-is s f r (and-left _ _ h) (zero-mail-is i (f .mail) (and-right (zeroOk s) _ h))
 
 good-past : (i : ℕ) (s : Server) → s ≡ zeroServer → (zeroOk s && mailOk 0 i (s .mail)) ≡ true
 good-past i s e = and-both _ _ (is-zero s e) (ap (λ (x : Server). mailOk 0 i (x .mail)) e ∙ zero-mail-ok i)
+
+zero-rows : (s : Server) → s ≡ zeroServer → rowsOk (s .rows) (s .log) (s .head .commit) ≡ true
+zero-rows s e = ap (λ (x : Server). rowsOk (x .rows) (x .log) (x .head .commit)) e ∙ good-rows (rows-of-good emptyLog 0)
 
 -- ---- the record
 
@@ -110,17 +119,22 @@ good c f h =
     record {
       at-least-two = leb-true fewestServers (c .count) (and-left _ _ h);
       at-most-seven = seven;
-      counted = λ i l. server-good (serverAt c i) (f .each i (omega arith) .log .slots) (and-left _ _ (inside i l (omega arith)));
+      counted = λ i l. server-good (serverAt c i) (f .each i (omega arith) .log .slots) (rowed i (omega arith)) (and-left _ _ (inside i l (omega arith)));
       mailed = λ i l. mail-good (f .each i (omega arith) .mail) (and-right (countedOk (serverAt c i)) _ (inside i l (omega arith)));
-      past = λ i l m. past-good i (serverAt c i) (f .each i m) (rw (le-ltb i (c .count) l) at (each h2 i m));
+      past = λ i l m. past-good i (serverAt c i) (f .each i m) (rowed i m) (rw (le-ltb i (c .count) l) at (and-right (rowsAt i) _ (each i m)));
     }
   where
-    each : (leb (c .count) mostServers && every mostServers (λ i. serverOk (c .count) i (serverAt c i))) ≡ true
-        → (i : ℕ) → i < mostServers → serverOk (c .count) i (serverAt c i) ≡ true
-    each h i l = every-at _ mostServers i (and-right (leb (c .count) mostServers) _ h) l
+    rowsAt : ℕ → Bool
+    rowsAt i = rowsOk (serverAt c i .rows) (serverAt c i .log) (serverAt c i .head .commit)
+
+    each : (i : ℕ) → i < mostServers → serverOk (c .count) i (serverAt c i) ≡ true
+    each i l = every-at _ mostServers i (and-right (leb (c .count) mostServers) _ (and-right (leb fewestServers (c .count)) _ h)) l
+
+    rowed : (i : ℕ) → i < mostServers → rowsOk (serverAt c i .rows) (serverAt c i .log) (serverAt c i .head .commit) ≡ true
+    rowed i m = and-left _ _ (each i m)
 
     inside : (i : ℕ) → i < c .count → i < mostServers → (countedOk (serverAt c i) && mailOk (c .count) i (serverAt c i .mail)) ≡ true
-    inside i l m = rw (lt-ltb i (c .count) l) at (each (and-right (leb fewestServers (c .count)) _ h) i m)
+    inside i l m = rw (lt-ltb i (c .count) l) at (and-right (rowsAt i) _ (each i m))
 
 pub well-formed : (c : Cluster) → Good c → wellFormed c ≡ true
 unfolding wellFormed serverOk
@@ -130,7 +144,9 @@ well-formed c g =
     (every-all _ mostServers (λ i m. ⊎-elim (λ l. in-place i l) (λ l. past-place i l m) (lt-or-le i (c .count)))))
   where
     in-place : (i : ℕ) → i < c .count → serverOk (c .count) i (serverAt c i) ≡ true
-    in-place i l = rw (lt-ltb i (c .count) l) (and-both _ _ (good-server (serverAt c i) (g .counted i l)) (good-mail (g .mailed i l)))
+    in-place i l =
+        rw (lt-ltb i (c .count) l)
+        (and-both _ _ (good-rows (g .counted i l .rows)) (and-both _ _ (good-server (serverAt c i) (g .counted i l)) (good-mail (g .mailed i l))))
 
     past-place : (i : ℕ) → c .count ≤ i → i < mostServers → serverOk (c .count) i (serverAt c i) ≡ true
-    past-place i l m = rw (le-ltb i (c .count) l) (good-past i (serverAt c i) (g .past i l m))
+    past-place i l m = rw (le-ltb i (c .count) l) (and-both _ _ (zero-rows (serverAt c i) (g .past i l m)) (good-past i (serverAt c i) (g .past i l m)))

@@ -2,10 +2,14 @@
 use Prim.Native.Nat.{ℕ, min}
 use Rattle.base.proofs.Results.{OneResult, one-result}
 use Rattle.cluster.specs.declared.Cluster.{Cluster}
+use Rattle.log.specs.declared.Log.{Log}
 use Rattle.cluster.specs.declared.Server.{Server}
-use Rattle.cluster.specs.Servers.{clockedOf, clocksSet, electedAll, freshCluster, freshServer, mostServers, startedOf, votedOf, withServer, zeroCluster}
+use Rattle.cluster.specs.Servers.{clockedOf, clocksSet, committedTo, electedAll, freshCluster, freshServer, mostServers, rowedAll, rowedOf, startedOf, votedOf, withServer, zeroCluster}
 use Rattle.cluster.specs.Sets.{isMajority, isWithin, member, membersOf}
 use Rattle.cluster.specs.WellFormed.{countedOk, numbersOk, serverOk, wellFormed, zeroOk}
+use Rattle.cluster.proofs.committed_to.Reads as committed-to-reads
+use Rattle.cluster.proofs.rowed.Reads as rowed-reads
+use Rattle.cluster.proofs.rowed_all.Reads as rowed-all-reads
 use Rattle.cluster.proofs.fresh_server.Reads as fresh-server-reads
 use Rattle.cluster.proofs.server_count.Reads as server-count-reads
 use Rattle.cluster.proofs.zero_cluster.Reads as zero-cluster-reads
@@ -82,3 +86,12 @@ within set n = one-result (isWithin set n)
 
 pub majority : (set count : ℕ) → OneResult (λ x. majority-reads.Learnt tt (set, (count, tt)) x (set, (count, tt)))
 majority set count = one-result (isMajority set count)
+
+pub committed-to : (s : Server) (g : Log) (n : ℕ) → OneResult (λ x. committed-to-reads.Learnt tt (s, (g, (n, tt))) x (s, (g, (n, tt))))
+committed-to s g n = one-result (committedTo s g n)
+
+pub rowed : (s : Server) → OneResult (λ x. rowed-reads.Learnt tt (s, tt) x (s, tt))
+rowed s = one-result (rowedOf s)
+
+pub rowed-all : (c : Cluster) → OneResult (λ x. rowed-all-reads.Learnt tt (c, tt) x (c, tt))
+rowed-all c = one-result (rowedAll c)

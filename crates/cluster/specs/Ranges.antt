@@ -4,7 +4,7 @@ use Prim.Native.Nat.{ℕ, _<_, _≤_, _^_}
 use lib.ListN.{length}
 use Rattle.clock.specs.Times.{limit}
 use Rattle.clock.specs.Ranges.{FitsTime}
-use Rattle.log.specs.Ranges.{FitsLog}
+use Rattle.log.specs.Ranges.{FitsLog, FitsRows}
 use Rattle.mail.specs.Ranges.{FitsMail}
 use Rattle.cluster.specs.declared.Head.{Head}
 use Rattle.cluster.specs.declared.Server.{Server}
@@ -21,6 +21,7 @@ pub record FitsServer (s : Server) : Type 0 where
   pub head : FitsHead (s .head)
   pub log : FitsLog (s .log)
   pub mail : FitsMail (s .mail)
+  pub rows : FitsRows (s .rows)
 
 pub record Fits (c : Cluster) : Type 0 where
   pub count : c .count < 2 ^ 64

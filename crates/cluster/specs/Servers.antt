@@ -8,7 +8,10 @@ use Rattle.base.specs.Lists.{each}
 use Rattle.clock.specs.declared.Time.{Time}
 use Rattle.clock.specs.Times.{zeroTime}
 use Rattle.log.specs.declared.Log.{Log}
+use Rattle.log.specs.declared.rows.Latest.{Latest}
+use Rattle.log.specs.declared.rows.Rows.{Rows}
 use Rattle.log.specs.Logs.{emptyLog}
+use Rattle.log.specs.Rows.{zeroRows, latestOver, between, rowsOf}
 use Rattle.mail.specs.declared.Mail.{Mail}
 use Rattle.mail.specs.Mails.{zeroMail, emptied}
 use Rattle.cluster.specs.declared.Head.{Head}
@@ -42,29 +45,44 @@ abbrev pub withTime : Head → Time → Head
 withTime h t = record { term = h .term; primary = h .primary; commit = h .commit; wall = h .wall; time = t }
 
 abbrev pub withHead : Server → Head → Server
-withHead s h = record { head = h; log = s .log; mail = s .mail }
+withHead s h = record { head = h; log = s .log; mail = s .mail; rows = s .rows }
 
 abbrev pub withLog : Server → Log → Server
-withLog s g = record { head = s .head; log = g; mail = s .mail }
+withLog s g = record { head = s .head; log = g; mail = s .mail; rows = s .rows }
 
 abbrev pub withMail : Server → Mail → Server
-withMail s m = record { head = s .head; log = s .log; mail = m }
+withMail s m = record { head = s .head; log = s .log; mail = m; rows = s .rows }
+
+abbrev pub withRows : Server → Rows → Server
+withRows s r = record { head = s .head; log = s .log; mail = s .mail; rows = r }
+
+-- with another row of the whole log, or of its committed beginning
+abbrev pub withWhole : Server → Latest → Server
+withWhole s v = withRows s (record { whole = v; committed = s .rows .committed })
+
+abbrev pub withCommitted : Server → Latest → Server
+withCommitted s v = withRows s (record { whole = s .rows .whole; committed = v })
 
 -- all zero, secondary
 abbrev pub zeroHead : Head
 zeroHead = record { term = 0; primary = false; commit = 0; wall = 0; time = zeroTime }
 
 abbrev pub zeroServer : Server
-zeroServer = record { head = zeroHead; log = emptyLog; mail = zeroMail }
+zeroServer = record { head = zeroHead; log = emptyLog; mail = zeroMail; rows = zeroRows }
 
--- secondary, term 0, log empty, commit point 0, wall clock 1, cluster time (0,0); no note, no report, no source
+-- secondary, term 0, log empty, commit point 0, wall clock 1, cluster time (0,0); no note, no report, no source, no latest value
 abbrev pub freshServer : Server
 freshServer = withHead zeroServer (withWall zeroHead 1)
 
 -- what the language takes for an element past an array's end
 abbrev pub pastServer : Server
 pastServer =
-    withMail (withLog zeroServer (record { entries = []; len = 0 })) (record { notes = []; queue = record { reports = []; len = 0 }; source = 0 })
+    record {
+      head = zeroHead;
+      log = record { entries = []; len = 0 };
+      mail = record { notes = []; queue = record { reports = []; len = 0 }; source = 0 };
+      rows = record { whole = record { values = [] }; committed = record { values = [] } };
+    }
 
 -- the server count, cut at seven so that it is one for every record
 abbrev pub serverCount : Cluster → ℕ
@@ -104,11 +122,23 @@ clockedOf n w i s = cond (ltb i n) (withHead s (withWall (s .head) w)) s
 abbrev pub clocksSet : Cluster → ℕ → Cluster
 clocksSet c w = record { count = c .count; servers = each (clockedOf (c .count) w) (c .servers) }
 
--- what a start, an election and agreeing clocks make of server i, for the one loop behind them
+-- the row of the committed beginning at a commit point n, in the log g: brought up from the one before by the entries between
+abbrev pub committedTo : Server → Log → ℕ → Latest
+committedTo s g n = latestOver (s .rows .committed) (between g (s .head .commit) n)
+
+-- a server with its rows worked out afresh
+unfoldable pub rowedOf : Server → Server
+rowedOf s = withRows s (rowsOf (s .log) (s .head .commit))
+
+abbrev pub rowedAll : Cluster → Cluster
+rowedAll c = record { count = c .count; servers = each (λ i. rowedOf) (c .servers) }
+
+-- what a start, an election, agreeing clocks and rows worked out afresh make of server i, for the one loop behind them
 abbrev pub changedOf : Change → ℕ → Server → Server
 changedOf (C.Start n) = startedOf n
 changedOf (C.Elect a m t) = votedOf a m t
 changedOf (C.Clock n w) = clockedOf n w
+changedOf C.Rowed = λ i. rowedOf
 
 abbrev pub changedAll : Change → Cluster → Cluster
 changedAll k c = record { count = c .count; servers = each (changedOf k) (c .servers) }

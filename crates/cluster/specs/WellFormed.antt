@@ -1,4 +1,4 @@
--- Which records are well formed, as 01 words it, and 02 for notes, queues and sources. Assumes nothing.
+-- Which records are well formed, as 01 words it, and 02 for notes, queues, sources and rows. Assumes nothing.
 use mathlib.Core.Bool.{Bool, true, cond, not, _&&_}
 use Prim.Native.Nat.{ℕ}
 use lib.Dec.{eqb, ltb, leb}
@@ -7,6 +7,7 @@ use Rattle.clock.specs.Times.{zeroTime, isBefore, sameTime}
 use Rattle.log.specs.Entries.{appliedTime}
 use Rattle.log.specs.Logs.{live, lengthOf}
 use Rattle.log.specs.Order.{isEmptyLog, logOk}
+use Rattle.log.specs.Rows.{rowsOk}
 use Rattle.mail.specs.Order.{mailOk}
 use Rattle.cluster.specs.declared.Server.{Server}
 use Rattle.cluster.specs.declared.Cluster.{Cluster}
@@ -27,9 +28,12 @@ zeroOk s =
     isEmptyLog (s .log)
     && (eqb (s .head .term) 0 && (not (s .head .primary) && (eqb (s .head .commit) 0 && (eqb (s .head .wall) 0 && sameTime (s .head .time) zeroTime))))
 
--- server i, where so many are counted: past the count, where nobody is, its mail is all zero too
+-- server i, where so many are counted: past the count, where nobody is, its mail is all zero too. Both its rows have what a walk finds: past the
+-- count, where there is no entry, nothing
 unfoldable pub serverOk : ℕ → ℕ → Server → Bool
-serverOk n i s = cond (ltb i n) (countedOk s && mailOk n i (s .mail)) (zeroOk s && mailOk 0 i (s .mail))
+serverOk n i s =
+    rowsOk (s .rows) (s .log) (s .head .commit)
+    && cond (ltb i n) (countedOk s && mailOk n i (s .mail)) (zeroOk s && mailOk 0 i (s .mail))
 
 -- the server count is 2 to 7, and each server is as its place asks
 unfoldable pub wellFormed : Cluster → Bool

@@ -1,10 +1,12 @@
 // Servers side by side in one record, by value: the fixed records, one server replaced, all servers changed, and which records are well formed.
 ghost use mathlib.Core.Path.{_≡_};
 ghost use Prim.Native.Nat.{min};
-ghost use Rattle.cluster.specs.Servers.{mostServers, freshServer, zeroCluster, startedOf, freshCluster, withServer, votedOf, electedAll, clockedOf, clocksSet, changedOf, changedAll};
+ghost use Rattle.cluster.specs.Servers.{mostServers, freshServer, zeroCluster, startedOf, freshCluster, withServer, votedOf, electedAll, clockedOf, clocksSet, committedTo, rowedOf, rowedAll, changedOf, changedAll};
 ghost use Rattle.cluster.specs.WellFormed.{numbersOk, countedOk, zeroOk, serverOk, wellFormed};
 use clock::Time;
 use log::Log;
+use log::rows::Latest;
+use log::rows::Rows;
 use mail::Mail;
 
 pub mod sets;
@@ -23,6 +25,7 @@ pub struct Server {
     pub head: Head,
     pub log: Log,
     pub mail: Mail,
+    pub rows: Rows,
 }
 
 pub struct Cluster {
@@ -30,11 +33,12 @@ pub struct Cluster {
     pub servers: [Server; MOST_SERVERS],
 }
 
-// A change of all servers at once: a start of n, an election of a by a set into a term, the first count's wall clocks.
+// A change of all servers at once: a start of n, an election of a by a set into a term, the first count's wall clocks, rows worked out afresh.
 enum Change {
     Start(usize),
     Elect(usize, u8, u16),
     Clock(usize, u16),
+    Rowed,
 }
 
 pub const FEWEST_SERVERS: usize = 2;
@@ -53,6 +57,7 @@ pub const ZERO_SERVER: Server = Server {
     head: ZERO_HEAD,
     log: log::EMPTY_LOG,
     mail: mail::ZERO_MAIL,
+    rows: log::rows::ZERO_ROWS,
 };
 
 pub const FRESH_SERVER: Server = Server {
@@ -156,6 +161,26 @@ pub fn clocked(s: Server, i: usize, count: usize, wall: u16) -> Server
     }
 }
 
+// The row of the committed beginning at commit point n, in the log g: brought up from the one before.
+pub fn committed_to(s: Server, g: Log, n: usize) -> Latest
+    ensures { λ r. ⌜ r ≡ committedTo s g n ⌝ }
+{
+    let rows = s.rows;
+    let before = rows.committed;
+    log::rows::latest_over(before, g, s.head.commit, n)
+}
+
+// The server with its rows worked out afresh.
+pub fn rowed(s: Server) -> Server
+    ensures { λ r. ⌜ r ≡ rowedOf s ⌝ }
+{
+    let g = s.log;
+    Server {
+        rows: log::rows::rows_of(g, s.head.commit),
+        ..s
+    }
+}
+
 // Server i after the change.
 fn change_one(s: Server, i: usize, change: Change) -> Server
     ensures { λ r. ⌜ r ≡ changedOf change i s ⌝ }
@@ -164,6 +189,7 @@ fn change_one(s: Server, i: usize, change: Change) -> Server
         Change::Start(n) => started(s, i, n),
         Change::Elect(a, set, term) => voted(s, i, a, set, term),
         Change::Clock(count, wall) => clocked(s, i, count, wall),
+        Change::Rowed => rowed(s),
     }
 }
 
@@ -204,6 +230,13 @@ pub fn set_clocks(c: Cluster, wall: u16) -> Cluster
 {
     let count = c.count;
     change_all(c, Change::Clock(count, wall))
+}
+
+// The record with every server's rows worked out afresh.
+pub fn rowed_all(c: Cluster) -> Cluster
+    ensures { λ r. ⌜ r ≡ rowedAll c ⌝ }
+{
+    change_all(c, Change::Rowed)
 }
 
 // Whether a counted server's commit point, wall clock and role are in range.
@@ -267,6 +300,11 @@ pub fn zero_ok(s: Server) -> bool
 pub fn server_ok(s: Server, n: usize, i: usize) -> bool
     ensures { λ r. ⌜ r ≡ serverOk n i s ⌝ }
 {
+    let g = s.log;
+    let rows = s.rows;
+    if !log::rows::rows_ok(rows, g, s.head.commit) {
+        return false;
+    }
     let m = s.mail;
     if i < n {
         if !counted_ok(s) {

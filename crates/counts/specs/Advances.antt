@@ -9,7 +9,7 @@ use Rattle.log.specs.Logs.{live, lengthOf}
 use Rattle.mail.specs.Mails.{noteAt}
 use Rattle.cluster.specs.declared.Server.{Server}
 use Rattle.cluster.specs.declared.Cluster.{Cluster}
-use Rattle.cluster.specs.Servers.{withCommit, withHead, serverCount, serverAt, withServer}
+use Rattle.cluster.specs.Servers.{withCommit, withHead, withCommitted, committedTo, serverCount, serverAt, withServer}
 use Rattle.cluster.specs.Sets.{mostOf}
 use Rattle.steps.specs.declared.Outcome.{Outcome}
 use Rattle.steps.specs.declared.Answer.the-variants.{Reached}
@@ -47,9 +47,9 @@ advanceRules c a =
     ∷ (leb 1 (highestPassing (serverCount c) (serverAt c a) a), ConditionUnmet)
     ∷ []
 
--- the server with this commit point
+-- the server with this commit point, and the row of its committed beginning
 abbrev pub committedOf : Server → ℕ → Server
-committedOf s n = withHead s (withCommit (s .head) n)
+committedOf s n = withCommitted (withHead s (withCommit (s .head) n)) (committedTo s (s .log) n)
 
 -- the answer is the new commit point
 abbrev pub advanceDone : Cluster → ℕ → Outcome

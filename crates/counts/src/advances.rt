@@ -6,6 +6,7 @@ ghost use Rattle.counts.specs.Advances.{backs, highestPassing, advancesO
 use cluster::Cluster;
 use cluster::Head;
 use cluster::Server;
+use log::rows::Rows;
 use steps::Answer;
 use steps::Outcome;
 use steps::Refusal;
@@ -73,8 +74,14 @@ pub fn advances(c: Cluster, a: usize) -> Outcome
         return steps::refuse_all(c, Refusal::ConditionUnmet);
     }
     let h = s.head;
+    let g = s.log;
+    let rows = s.rows;
     let t = Server {
         head: Head { commit: n, ..h },
+        rows: Rows {
+            committed: cluster::committed_to(s, g, n),
+            ..rows
+        },
         ..s
     };
     Outcome {

@@ -1,17 +1,22 @@
 // Every value of the types fits their ranges: each function here only shows so, of whatever it is given.
 ghost use mathlib.Core.Path.{_≡_};
 ghost use mathlib.Core.Bool.{true};
+ghost use Prim.Native.Nat.{_≤_};
+ghost use Rattle.clock.specs.Times.{limit};
 ghost use Rattle.clock.specs.Ranges.{FitsTime};
-ghost use Rattle.log.specs.Ranges.{FitsEntry, FitsLog};
+ghost use Rattle.log.specs.Ranges.{FitsEntry, FitsLog, FitsLatest, FitsRows};
 ghost use Rattle.mail.specs.Ranges.{FitsNote, FitsReport, FitsQueue, FitsMail};
-ghost use Rattle.cluster.specs.Ranges.{FitsServer, Fits};
+ghost use Rattle.cluster.specs.Ranges.{FitsHead, FitsServer, Fits};
 ghost use Rattle.steps.specs.Ranges.{FitsStep};
 ghost use Rattle.answers.specs.Ranges.{FitsTelling};
 use clock::Time;
 use cluster::Cluster;
+use cluster::Head;
 use cluster::Server;
 use log::Entry;
 use log::Log;
+use log::rows::Latest;
+use log::rows::Rows;
 use mail::Mail;
 use mail::Note;
 use mail::Queue;
@@ -88,13 +93,54 @@ pub fn mail_fits(m: Mail) -> bool
     queue_fits(q)
 }
 
+fn value_fits(n: u16) -> bool
+    ensures { λ r. ⌜ r ≡ true ⌝ }
+    ensures { λ r. ⌜ n ≤ limit ⌝ }
+{
+    true
+}
+
+pub fn latest_fits(v: Latest) -> bool
+    ensures { λ r. ⌜ r ≡ true ⌝ }
+    ensures { λ r. ⌜ FitsLatest v ⌝ }
+{
+    let mut i = 0;
+    while i < log::rows::KEYS {
+        let n = v.values[i];
+        value_fits(n);
+        i += 1;
+    }
+    true
+}
+
+pub fn rows_fits(r: Rows) -> bool
+    ensures { λ o. ⌜ o ≡ true ⌝ }
+    ensures { λ o. ⌜ FitsRows r ⌝ }
+{
+    let v = r.whole;
+    let w = r.committed;
+    latest_fits(v);
+    latest_fits(w)
+}
+
+pub fn head_fits(h: Head) -> bool
+    ensures { λ r. ⌜ r ≡ true ⌝ }
+    ensures { λ r. ⌜ FitsHead h ⌝ }
+{
+    true
+}
+
 pub fn server_fits(s: Server) -> bool
     ensures { λ r. ⌜ r ≡ true ⌝ }
     ensures { λ r. ⌜ FitsServer s ⌝ }
 {
     let g = s.log;
     let m = s.mail;
+    let r = s.rows;
+    let h = s.head;
+    head_fits(h);
     log_fits(g);
+    rows_fits(r);
     mail_fits(m)
 }
 

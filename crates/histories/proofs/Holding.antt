@@ -14,9 +14,12 @@ use Rattle.clock.proofs.Order.{before-itself}
 use Rattle.log.specs.declared.Entry.{Entry}
 use Rattle.log.specs.Entries.{zeroEntry, entryAt, appliedTime}
 use Rattle.log.specs.Logs.{logLimit, live}
-use Rattle.log.specs.Ranges.{FitsEntry}
+use Rattle.log.specs.Rows.{rowsOf}
+use Rattle.log.specs.Ranges.{FitsEntry, FitsLog}
 use Rattle.log.proofs.Live.{entryAt-slot}
 use Rattle.log.proofs.Orderly.{Orderly, orderly, in-order}
+use Rattle.log.proofs.Ranges.{fits-rows-of}
+use Rattle.log.proofs.Rowed.{rows-of-good}
 use Rattle.log.proofs.Tidy.{logOf, tidy-logOf, tidy-highest}
 use Rattle.mail.specs.Mails.{zeroMail}
 use Rattle.mail.proofs.Kept.{zero-good}
@@ -36,7 +39,7 @@ use Rattle.histories.specs.Obeying.{Together, LogFits, HeldBy}
 
 -- a server of the highest term, with the last entry's time
 abbrev holder : List Entry → Server
-holder es = record { head = record { term = limit; primary = false; commit = 0; wall = 1; time = appliedTime es }; log = logOf es; mail = zeroMail }
+holder es = record { head = record { term = limit; primary = false; commit = 0; wall = 1; time = appliedTime es }; log = logOf es; mail = zeroMail; rows = rowsOf (logOf es) 0 }
 
 abbrev record-of : List Entry → Cluster
 record-of es = withServer (freshCluster fewestServers) 0 (holder es)
@@ -57,14 +60,16 @@ module _ (es : List Entry) (short : length es ≤ committedLimit) (order : Order
         commit-point = omega arith;
         wall-clock = omega arith;
         primary-term = λ p. not-both false p refl;
+        rows = rows-of-good (logOf es) 0;
       }
 
   fits-holder : FitsServer (holder es)
   fits-holder =
       record {
         head = record { term = omega arith; commit = omega arith; wall = omega arith; time = each-fits (length es) .time };
-        log = record { slots = tidy-logOf es room .slots; len = omega arith; each = slot };
+        log = fits-log;
         mail = fits-zero-mail;
+        rows = fits-rows-of fits-log 0;
       }
     where
       slot : (i : ℕ) → i < logLimit → FitsEntry (getD (logOf es .entries) i zeroEntry)
@@ -73,6 +78,9 @@ module _ (es : List Entry) (short : length es ≤ committedLimit) (order : Order
           (λ l. subst FitsEntry (ap (λ (xs : List Entry). entryAt xs (suc i)) (sym live-log) ∙ entryAt-slot (logOf es) i l) (each-fits (suc i)))
           (λ l. rw (tidy-logOf es room .rest i l) (record { term = omega arith; key = omega arith; value = omega arith; time = record { p = omega arith; l = omega arith } }))
           (lt-or-le i (length es))
+
+      fits-log : FitsLog (logOf es)
+      fits-log = record { slots = tidy-logOf es room .slots; len = omega arith; each = slot }
 
   at-first : serverAt (record-of es) 0 ≡ holder es
   at-first = replaced-here (freshCluster fewestServers) 0 (holder es) (omega (arith, fits-fresh fewestServers (omega arith) .slots))

@@ -6,15 +6,18 @@ use Prim.Native.Nat.{ℕ, suc, _+_, _-_, _<_, _≤_}
 use native.Mathlib.Nat.{add-zero}
 use native.Mathlib.Numerals.{add-one}
 use native.Mathlib.Omega.{arith}
-use lib.ListN.{length, getD, set, replicate, length-set}
-use lib.Seq.{sets, set-set, set-getD, getD-set-other, take-all}
+use lib.ListN.{length, getD, set, replicate, length-set, length-map}
+use lib.Seq.{sets, set-set, set-getD, getD-set-other, take-all, ext-getD}
 use borrow.Author.Tests.{lt-ltb, le-leb}
 use Rattle.base.specs.Numbers.{byte}
+use Rattle.base.proofs.Each.{length-eachFrom, each-at, map-at, taken-map}
 use Rattle.base.proofs.Joined.{refilled}
 use Rattle.words.specs.Words.{byteAt}
 use Rattle.log.specs.declared.Entry.{Entry}
 use Rattle.log.specs.declared.Log.{Log}
 use Rattle.log.specs.Logs.{emptyLog, kept, appended}
+use Rattle.log.specs.Rows.{zeroRows}
+use Rattle.log.proofs.Rowed.{rows-are}
 use Rattle.log.proofs.Tidy.{appendedAll, appended-again}
 use Rattle.mail.specs.declared.Report.{Report}
 use Rattle.mail.specs.declared.Note.{Note}
@@ -29,12 +32,12 @@ use Rattle.mail.proofs.Filled.{queuedAll, queued-again, used-greater}
 use Rattle.cluster.specs.declared.Head.{Head}
 use Rattle.cluster.specs.declared.Server.{Server}
 use Rattle.cluster.specs.declared.Cluster.{Cluster}
-use Rattle.cluster.specs.Servers.{mostServers, zeroServer, pastServer, serverAt, withLog, withMail, withServer}
+use Rattle.cluster.specs.Servers.{mostServers, zeroServer, pastServer, serverAt, withLog, withMail, withRows, withServer, rowedOf, rowedAll}
 use Rattle.cluster.specs.WellFormed.{wellFormed}
 use Rattle.cluster.specs.Ranges.{Fits}
 use Rattle.cluster.proofs.Changed.{replaced-here}
 use Rattle.cluster.proofs.Good.{good}
-use Rattle.cluster.proofs.Sound.{ServerSound, Sound}
+use Rattle.cluster.proofs.Sound.{ServerSound, Sound, sound-rows}
 use Rattle.saved.specs.declared.Sort.the-variants as S
 use Rattle.saved.specs.Layout.{Widths, numbersIn, serverNumbers, firstFrame, serverFrame, entryFrame, noteFrame, reportFrame}
 use Rattle.saved.specs.Editions.{Edition}
@@ -42,7 +45,7 @@ use Rattle.saved.specs.Saved.{noteFrames, queuedReports, serverFrames, allFrame
 use Rattle.saved.proofs.Lawful.{Lawful}
 use Rattle.saved.proofs.Frames.{saved-frames}
 use Rattle.loads.specs.declared.Draft.{Draft}
-use Rattle.loads.specs.Decoded.{headSaid, toldBy, counting, beginning, telling, withFrame, roomy, decodedBy, freshDraft, decodedIn}
+use Rattle.loads.specs.Decoded.{headSaid, toldBy, counting, beginning, telling, withFrame, roomy, decodedBy, freshDraft, draftedIn, decodedIn}
 use Rattle.loads.proofs.Counted.{counted, AllCount, counted-long, all-count}
 use Rattle.loads.proofs.Fields.{reporting, sort-read, numbers-read, head-read, told-entry, told-note, told-report}
 
@@ -56,7 +59,11 @@ building c i s = record { cluster = withServer c i s; begun = i + 1 }
 
 -- what its frame alone tells of a server
 abbrev bare : Server → Server
-bare s = record { head = s .head; log = emptyLog; mail = withSource zeroMail (s .mail .source) }
+bare s = record { head = s .head; log = emptyLog; mail = withSource zeroMail (s .mail .source); rows = zeroRows }
+
+-- what all its frames tell: no rows
+abbrev unrowed : Server → Server
+unrowed s = withRows s zeroRows
 
 module _ {w : Widths} (l : Lawful w) (c : Cluster) (i : ℕ) (slots : length (c .servers) ≡ mostServers) (room : i < mostServers) where
   tells : (s : Server) (bs : List ℕ) → telling w (building c i s) bs ≡ building c i (toldBy w s bs)
@@ -126,11 +133,11 @@ module _ {w : Widths} (l : Lawful w) (c : Cluster) (i : ℕ) (slots : length (c 
   unfolding withFrame beginning
   begins s =
       rw (sort-read l S.Server _ (sym (l .server-long)), lt-ltb i mostServers room)
-      (ap (λ (ns : List ℕ). building c i (record { head = headSaid (numbersIn w S.Server (roomy (serverFrame w s))); log = emptyLog; mail = withSource zeroMail (byteAt ns 3) }))
+      (ap (λ (ns : List ℕ). building c i (record { head = headSaid (numbersIn w S.Server (roomy (serverFrame w s))); log = emptyLog; mail = withSource zeroMail (byteAt ns 3); rows = zeroRows }))
       (numbers-read l S.Server (serverNumbers s) (sym (l .server-long)))
-      ∙ ap (λ (h : Head). building c i (record { head = h; log = emptyLog; mail = bare s .mail })) (head-read l s))
+      ∙ ap (λ (h : Head). building c i (record { head = h; log = emptyLog; mail = bare s .mail; rows = zeroRows })) (head-read l s))
 
-  server : {n j : ℕ} (s : Server) → ServerSound n j s → decodedBy w (record { cluster = c; begun = i }) (serverFrames w s) ≡ building c i s
+  server : {n j : ℕ} (s : Server) → ServerSound n j s → decodedBy w (record { cluster = c; begun = i }) (serverFrames w s) ≡ building c i (unrowed s)
   server s x =
       ap (λ (d : Draft). decodedBy w d (map (entryFrame w) (kept (s .log)) ++ rest)) (begins s)
       ∙ decoded-append w (building c i (bare s)) (map (entryFrame w) (kept (s .log))) rest
@@ -161,20 +168,20 @@ module _ {w : Widths} (l : Lawful w) (c : Cluster) (i : ℕ) (slots : length (c 
 -- ---- the record
 
 servers : {w : Widths} → Lawful w → (c : Cluster) (i : ℕ) (ss : List Server) → length (c .servers) ≡ mostServers → i + length ss ≤ mostServers → AllCount ss
-    → decodedBy w (record { cluster = c; begun = i }) (allFrames w ss) ≡ record { cluster = record { count = c .count; servers = sets (c .servers) i ss }; begun = i + length ss }
+    → decodedBy w (record { cluster = c; begun = i }) (allFrames w ss) ≡ record { cluster = record { count = c .count; servers = sets (c .servers) i (map unrowed ss) }; begun = i + length ss }
 servers l c i [] slots room x = ap (λ (k : ℕ). record { cluster = c; begun = k }) (sym (add-zero i))
 servers {w} l c i (s ∷ ss) slots room x =
     decoded-append w (record { cluster = c; begun = i }) (serverFrames w s) (allFrames w ss)
     ∙ ap (λ (d : Draft). decodedBy w d (allFrames w ss)) (server l c i slots (omega arith) s (x 0 (omega arith) .2))
-    ∙ servers l (withServer c i s) (i + 1) ss (length-set (c .servers) i s ∙ slots) (omega arith) (λ k l. x (suc k) (omega arith))
+    ∙ servers l (withServer c i (unrowed s)) (i + 1) ss (length-set (c .servers) i (unrowed s) ∙ slots) (omega arith) (λ k l. x (suc k) (omega arith))
     ∙ more
   where
-    more : _≡_ {A = Draft} (record { cluster = record { count = c .count; servers = sets (set (c .servers) i s) (i + 1) ss }; begun = i + 1 + length ss })
-        (record { cluster = record { count = c .count; servers = sets (set (c .servers) i s) (suc i) ss }; begun = i + suc (length ss) })
+    more : _≡_ {A = Draft} (record { cluster = record { count = c .count; servers = sets (set (c .servers) i (unrowed s)) (i + 1) (map unrowed ss) }; begun = i + 1 + length ss })
+        (record { cluster = record { count = c .count; servers = sets (set (c .servers) i (unrowed s)) (suc i) (map unrowed ss) }; begun = i + suc (length ss) })
     more =
         let a = add-one i in
         let e : i + 1 + length ss ≡ i + suc (length ss) = omega arith in
-        λ k. record { cluster = record { count = c .count; servers = sets (set (c .servers) i s) (a k) ss }; begun = e k }
+        λ k. record { cluster = record { count = c .count; servers = sets (set (c .servers) i (unrowed s)) (a k) (map unrowed ss) }; begun = e k }
 
 -- the first frame tells the server count
 first-counts : {w : Widths} → Lawful w → (edition size : ℕ) → withFrame w freshDraft (roomy (firstFrame w edition size)) ≡ counting freshDraft size
@@ -183,17 +190,43 @@ first-counts l edition size =
     let ns = edition ∷ size ∷ [] in
     rw (sort-read l S.First ns (sym (l .first-long))) (ap (λ (x : List ℕ). counting freshDraft (byteAt x 1)) (numbers-read l S.First ns (sym (l .first-long))))
 
--- the frames of a well-formed record that fits decode to it, in every edition
-frames-decoded : (e : Edition) → Lawful (e .widths) → (c : Cluster) → Sound c → decodedBy (e .widths) freshDraft (framesOf e c) .cluster ≡ c
+-- a record whose servers have no rows
+abbrev unrowedAll : Cluster → Cluster
+unrowedAll c = record { count = c .count; servers = map unrowed (c .servers) }
+
+-- the frames of a well-formed record that fits decode to it, but for its rows, in every edition
+frames-decoded : (e : Edition) → Lawful (e .widths) → (c : Cluster) → Sound c → decodedBy (e .widths) freshDraft (framesOf e c) .cluster ≡ unrowedAll c
 frames-decoded e l c h =
-    let whole = refilled pastServer zeroServer mostServers (c .count) (c .servers) (h .fits .slots) (h .good .at-most-seven) (h .good .past) in
+    let whole =
+    refilled pastServer zeroServer mostServers (c .count) (map unrowed (c .servers)) (length-map (c .servers) unrowed ∙ h .fits .slots) (h .good .at-most-seven) past in
     ap (λ (d : Draft). d .cluster)
     (ap (λ (d : Draft). decodedBy (e .widths) d (allFrames (e .widths) (counted c))) (first-counts l (e .number) (c .count))
     ∙ servers l (record { count = c .count; servers = replicate mostServers zeroServer }) 0 (counted c) refl (omega (arith, counted-long h, h .good .at-most-seven)) (all-count h))
+    ∙ (λ k. record { count = c .count; servers = sets (replicate mostServers zeroServer) 0 (taken-map unrowed (c .count) (c .servers) k) })
     ∙ (λ k. record { count = c .count; servers = whole k })
+  where
+    past : (i : ℕ) → c .count ≤ i → i < mostServers → getD (map unrowed (c .servers)) i pastServer ≡ zeroServer
+    past i k m = map-at unrowed (c .servers) i pastServer pastServer (omega (arith, h .fits .slots)) ∙ ap unrowed (h .good .past i k m)
+
+-- and its rows are those that are worked out afresh
+rowed-again : (c : Cluster) → Sound c → rowedAll (unrowedAll c) ≡ c
+unfolding rowedOf
+rowed-again c h =
+    let same =
+    ext-getD pastServer (rowedAll (unrowedAll c) .servers) (c .servers) (length-eachFrom _ 0 _ ∙ length-map (c .servers) unrowed)
+    (λ i l. each-at (λ i. rowedOf) (map unrowed (c .servers)) i pastServer (omega (arith, length-eachFrom (λ i. rowedOf) 0 (map unrowed (c .servers))))
+    ∙ ap rowedOf (map-at unrowed (c .servers) i pastServer pastServer (long i l)) ∙ again i (omega (arith, long i l, h .fits .slots))) in
+    λ k. record { count = c .count; servers = same k }
+  where
+    long : (i : ℕ) → i < length (rowedAll (unrowedAll c) .servers) → i < length (c .servers)
+    long i l = omega (arith, length-eachFrom (λ i. rowedOf) 0 (map unrowed (c .servers)), length-map (c .servers) unrowed)
+
+    again : (i : ℕ) → i < mostServers → rowedOf (unrowed (serverAt c i)) ≡ serverAt c i
+    again i m = ap (withRows (serverAt c i)) (sym (rows-are (h .fits .each i m .rows) (sound-rows h i m)))
 
 -- THE LAW: the saved form of a well-formed record that fits decodes to it
 pub saved-decoded : (e : Edition) → Lawful (e .widths) → e .number < byte → (c : Cluster) → Fits c → wellFormed c ≡ true → decodedIn (e .widths) (savedAs e c) ≡ c
-unfolding decodedIn
+unfolding draftedIn decodedIn
 saved-decoded e l b c f h =
-    ap (λ (fs : List (List ℕ)). decodedBy (e .widths) freshDraft fs .cluster) (saved-frames c f h e b l) ∙ frames-decoded e l c (record { fits = f; good = good c f h })
+    let s : Sound c = record { fits = f; good = good c f h } in
+    ap (λ (fs : List (List ℕ)). rowedAll (decodedBy (e .widths) freshDraft fs .cluster)) (saved-frames c f h e b l) ∙ ap (λ (d : Cluster). rowedAll d) (frames-decoded e l c s) ∙ rowed-again c s

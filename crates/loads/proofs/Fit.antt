@@ -25,7 +25,7 @@ use Rattle.cluster.specs.declared.Server.{Server}
 use Rattle.cluster.specs.declared.Cluster.{Cluster}
 use Rattle.cluster.specs.Ranges.{FitsHead, FitsServer, Fits}
 use Rattle.cluster.specs.Servers.{mostServers, zeroServer, zeroCluster, pastServer, serverAt, withLog, withMail, withServer}
-use Rattle.cluster.proofs.Changed.{fits-head, fits-log, fits-mail}
+use Rattle.cluster.proofs.Changed.{fits-head, fits-log, fits-mail, fits-rowed}
 use Rattle.cluster.proofs.Fresh.{good-fresh, fits-fresh}
 use Rattle.base.proofs.Replaced.{all-set}
 use Rattle.log.proofs.Ranges.{fits-appended}
@@ -37,7 +37,7 @@ use Rattle.saved.specs.Written.{mostBytes}
 use Rattle.saved.proofs.Fields.{said-below}
 use Rattle.saved.proofs.Lawful.{BytesAt, ToldLawful, Lawful}
 use Rattle.loads.specs.declared.Draft.{Draft}
-use Rattle.loads.specs.Decoded.{headSaid, serverSaid, entrySaid, reportSaid, toldBy, counting, beginning, telling, withFrame, roomy, decodedBy, freshDraft, decodedIn}
+use Rattle.loads.specs.Decoded.{headSaid, serverSaid, entrySaid, reportSaid, toldBy, counting, beginning, telling, withFrame, roomy, decodedBy, freshDraft, draftedIn, decodedIn}
 
 -- ---- records
 
@@ -155,5 +155,5 @@ module _ {w : Widths} (l : Lawful w) where
       fits-decoded-by (withFrame w d (roomy (bytesOf x))) ls (fits-frame l (roomy (bytesOf x)) (roomy-bytes x) d f)
 
   pub fits-decoded : (text : List ℕ) → Fits (decodedIn w text)
-  unfolding decodedIn
-  fits-decoded text = fits-decoded-by freshDraft (lines text) fits-zero-cluster
+  unfolding draftedIn decodedIn
+  fits-decoded text = fits-rowed (fits-decoded-by freshDraft (lines text) fits-zero-cluster)

@@ -13,7 +13,7 @@ use Rattle.lines.specs.Texts.{lineFeed, lines}
 use Rattle.lines.proofs.Lines.{Plain, none, more, plain-snoc, line-first, line-last}
 use Rattle.saved.specs.Editions.{widths1}
 use Rattle.loads.specs.declared.Draft.{Draft}
-use Rattle.loads.specs.Decoded.{withFrame, roomy, decodedBy, freshDraft, decodedIn}
+use Rattle.loads.specs.Decoded.{withFrame, roomy, decodedBy, freshDraft, draftedIn}
 
 -- the bytes from start up to i
 abbrev pub part : List ℕ → ℕ → ℕ → List ℕ
@@ -74,8 +74,8 @@ module _ {text : List ℕ} {d : Draft} {start i : ℕ} (r : Read text d start i)
     rest = cut ∙ ap (λ (l : List ℕ). part text start i ++ l) (drop-of-length-le text {i = i} h) ∙ append-nil (part text start i)
 
     -- a last line without a line feed counts
-    pub read-last : {e : Draft} → start < i → e ≡ withFrame widths1 d (roomy (bytesOf (part text start i))) → e .cluster ≡ decodedIn widths1 text
-    unfolding decodedIn
+    pub read-last : {e : Draft} → start < i → e ≡ withFrame widths1 d (roomy (bytesOf (part text start i))) → e .cluster ≡ draftedIn widths1 text
+    unfolding draftedIn
     read-last {e} l p =
         ap (λ (x : Draft). x .cluster) (p ∙ sym (ap (λ (ls : List (List ℕ)). decodedBy widths1 d (map bytesOf ls)) (ap lines rest ∙ one (part text start i) (r .plain) some)) ∙ r .same)
       where
@@ -86,8 +86,8 @@ module _ {text : List ℕ} {d : Draft} {start i : ℕ} (r : Read text d start i)
         one [] q l = absurd (omega arith)
         one (b ∷ p) (more f q) l = line-last b p f q
 
-    pub read-all : i ≤ start → d .cluster ≡ decodedIn widths1 text
-    unfolding decodedIn
+    pub read-all : i ≤ start → d .cluster ≡ draftedIn widths1 text
+    unfolding draftedIn
     read-all l =
         let e : drop start text ≡ [] = drop-of-length-le text {i = start} (omega arith) in
         ap (λ (x : Draft). x .cluster) (sym (ap (reading d) e) ∙ r .same)

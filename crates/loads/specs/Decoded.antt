@@ -9,12 +9,13 @@ use Rattle.hex.specs.Lines.{bytesOf, over}
 use Rattle.words.specs.Words.{byteAt}
 use Rattle.log.specs.declared.Entry.{Entry}
 use Rattle.log.specs.Logs.{emptyLog, appended}
+use Rattle.log.specs.Rows.{zeroRows}
 use Rattle.mail.specs.declared.Report.{Report}
 use Rattle.mail.specs.Mails.{zeroMail, withSource, noted, received}
 use Rattle.cluster.specs.declared.Head.{Head}
 use Rattle.cluster.specs.declared.Server.{Server}
 use Rattle.cluster.specs.declared.Cluster.{Cluster}
-use Rattle.cluster.specs.Servers.{mostServers, withLog, withMail, serverAt, zeroCluster, withServer}
+use Rattle.cluster.specs.Servers.{mostServers, withLog, withMail, serverAt, zeroCluster, withServer, rowedAll}
 use Rattle.lines.specs.Texts.{lines}
 use Rattle.saved.specs.declared.Sort.the-variants as S
 use Rattle.saved.specs.Layout.{Widths, sortNumber, numbersIn, saidAt}
@@ -35,7 +36,7 @@ headSaid ns =
 
 -- a server frame tells of no entries, notes and reports yet
 abbrev pub serverSaid : List ℕ → Server
-serverSaid ns = record { head = headSaid ns; log = emptyLog; mail = withSource zeroMail (byteAt ns 3) }
+serverSaid ns = record { head = headSaid ns; log = emptyLog; mail = withSource zeroMail (byteAt ns 3); rows = zeroRows }
 
 abbrev pub entrySaid : List ℕ → Entry
 entrySaid ns = record { term = byteAt ns 0; key = byteAt ns 1; value = byteAt ns 2; time = record { p = byteAt ns 3; l = byteAt ns 4 } }
@@ -84,5 +85,9 @@ module _ (w : Widths) where
   decodedBy d [] = d
   decodedBy d (f ∷ fs) = decodedBy (withFrame d (roomy f)) fs
 
+  unfoldable pub draftedIn : List ℕ → Cluster
+  draftedIn text = decodedBy freshDraft (map bytesOf (lines text)) .cluster
+
+  -- no frame tells of rows: they are worked out afresh
   unfoldable pub decodedIn : List ℕ → Cluster
-  decodedIn text = decodedBy freshDraft (map bytesOf (lines text)) .cluster
+  decodedIn text = rowedAll (draftedIn text)

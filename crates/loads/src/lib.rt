@@ -9,7 +9,7 @@ ghost use Rattle.saved.specs.Layout.{numbersIn};
 ghost use Rattle.saved.specs.Editions.{widths1, editions, isKnown, editionNumbered, hasForm};
 ghost use Rattle.saved.specs.Saved.{savedAs};
 ghost use Rattle.saved.specs.Written.{mostBytes};
-ghost use Rattle.loads.specs.Decoded.{headSaid, serverSaid, entrySaid, reportSaid, toldBy, counting, beginning, telling, withFrame, roomy, freshDraft, decodedIn};
+ghost use Rattle.loads.specs.Decoded.{headSaid, serverSaid, entrySaid, reportSaid, toldBy, counting, beginning, telling, withFrame, roomy, freshDraft, draftedIn, decodedIn};
 ghost use Rattle.loads.specs.Loads.{sameText, loadOf};
 use clock::Time;
 use cluster::Cluster;
@@ -71,6 +71,7 @@ fn server_in(b: [u8; BYTES]) -> Server
         head: head_in(b),
         log: log::EMPTY_LOG,
         mail: mail::with_source(mail::ZERO_MAIL, b[5] as usize),
+        rows: log::rows::ZERO_ROWS,
     }
 }
 
@@ -199,9 +200,9 @@ fn fresh_draft() -> Draft
     }
 }
 
-// What a text decodes to, with nothing checked.
-pub fn decode(text: &[u8]) -> Cluster
-    ensures { λ r. ⌜ r ≡ decodedIn widths1 (now (text .entry)) ⌝ }
+// What the frames of a text tell, with nothing checked; no frame tells of rows.
+fn drafted(text: &[u8]) -> Cluster
+    ensures { λ r. ⌜ r ≡ draftedIn widths1 (now (text .entry)) ⌝ }
 {
     let mut d = fresh_draft();
     let mut start: usize = 0;
@@ -217,6 +218,14 @@ pub fn decode(text: &[u8]) -> Cluster
         d = with_line(d, &text[start..i]);
     }
     d.cluster
+}
+
+// What a text decodes to, with nothing checked.
+pub fn decode(text: &[u8]) -> Cluster
+    ensures { λ r. ⌜ r ≡ decodedIn widths1 (now (text .entry)) ⌝ }
+{
+    let c = drafted(text);
+    cluster::rowed_all(c)
 }
 
 // Whether two texts are the same.

@@ -106,6 +106,11 @@ common-agrees (x ∷ xs) (y ∷ ys) = go (sameEntry x y) refl (common-agrees xs 
     go true e h = λ i. sameEntry-eq x y e i ∷ h i
     go false e h = refl
 
+-- as far as wanted within it
+pub common-first : (n : ℕ) (xs ys : List Entry) → n ≤ commonBeginning xs ys → take n ys ≡ take n xs
+common-first n xs ys h =
+    sym (take-take n (commonBeginning xs ys) ys h) ∙ ap (take n) (sym (common-agrees xs ys)) ∙ take-take n (commonBeginning xs ys) xs h
+
 -- and can't be longer: whatever both agree on is within it
 pub common-longest : (n : ℕ) (xs ys : List Entry) → n ≤ length xs → n ≤ length ys → take n xs ≡ take n ys → n ≤ commonBeginning xs ys
 unfolding commonBeginning

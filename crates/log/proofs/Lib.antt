@@ -7,5 +7,6 @@ pub mod Placed
 pub mod Tidy
 pub mod Positions
 pub mod Orderly
+pub mod Rowed
 pub mod Ranges
 pub mod Results

@@ -1,20 +1,26 @@
--- What makes a log of one that fits gives one that fits, and so does each of its entries. Assumes nothing.
+-- What makes a log of one that fits gives one that fits, and so does each of its entries, and its rows. Assumes nothing.
 use mathlib.Core.Path.{_≡_, refl, _∙_}
+use mathlib.Core.List.{List, [], _∷_}
 use mathlib.Core.Bool.{Bool, true, false, cond}
 use mathlib.Core.Logic.{⊎-elim}
 use Prim.Native.Nat.{ℕ, zero, suc, _+_, _<_, _≤_}
 use native.Mathlib.Omega.{arith}
-use lib.Dec.{ltb}
-use lib.ListN.{length, set, length-set, length-take}
+use lib.Dec.{ltb, leb}
+use lib.ListN.{length, getD, take, set, length-set, length-take, length-replicate, getD-replicate, List·getD-eq-default}
+use lib.Seq.{getD-take, getD-drop}
 use borrow.Author.Tests.{ltb-true}
 use Rattle.base.proofs.Facts.{lt-or-le}
+use Rattle.clock.specs.Times.{limit}
 use Rattle.base.proofs.Joined.{length-joined, joined-low, joined-high}
 use Rattle.base.proofs.Replaced.{all-set}
 use Rattle.log.specs.declared.Entry.{Entry}
 use Rattle.log.specs.declared.Log.{Log}
+use Rattle.log.specs.declared.rows.Latest.{Latest}
 use Rattle.log.specs.Entries.{zeroEntry, entryAt}
 use Rattle.log.specs.Logs.{logLimit, live, lengthOf, hasRoom, appended, joined}
-use Rattle.log.specs.Ranges.{FitsEntry, FitsLog}
+use Rattle.log.specs.Order.{highestKey}
+use Rattle.log.specs.Rows.{keys, zeroRow, zeroRows, latestAfter, latestOver, between, rowsOf}
+use Rattle.log.specs.Ranges.{FitsEntry, FitsLog, FitsLatest, FitsRows}
 use Rattle.log.proofs.Live.{entryAt-zero, entryAt-past, entryAt-slot}
 
 fits-zero-entry : FitsEntry zeroEntry
@@ -57,3 +63,45 @@ fits-joined {a} {b} k fa fb h =
   where
     within : k ≤ length (a .entries)
     within = omega (arith, length-take (a .len) (a .entries))
+
+-- ---- rows
+
+-- every entry of a list fits, and the zero entry past its end
+abbrev pub FitEntries : List Entry → Type 0
+FitEntries es = (i : ℕ) → FitsEntry (getD es i zeroEntry)
+
+fit-taken : (es : List Entry) (n : ℕ) → FitEntries es → FitEntries (take n es)
+fit-taken es n f i =
+    ⊎-elim (λ l. rw (getD-take n es i zeroEntry l) (f i)) (λ l. rw (List·getD-eq-default (take n es) zeroEntry {n = i} (omega (arith, length-take n es))) fits-zero-entry)
+    (lt-or-le i n)
+
+pub fit-live : {g : Log} → FitsLog g → FitEntries (live g)
+fit-live {g} f = fit-taken (g .entries) (g .len) (λ i. ⊎-elim (f .each i) (λ l. rw (List·getD-eq-default (g .entries) zeroEntry {n = i} (omega (arith, f .slots))) fits-zero-entry) (lt-or-le i logLimit))
+
+pub fit-between : {g : Log} → FitsLog g → (k n : ℕ) → FitEntries (between g k n)
+fit-between {g} f k n i = rw (getD-drop k (take n (live g)) i zeroEntry) (fit-taken (live g) n (fit-live f) (k + i))
+
+pub fits-zero-row : FitsLatest zeroRow
+fits-zero-row = record { slots = length-replicate {A = ℕ} keys 0; each = λ key h. rw (getD-replicate {A = ℕ} keys key 0 0 h) (omega arith) }
+
+pub fits-zero-rows : FitsRows zeroRows
+fits-zero-rows = record { whole = fits-zero-row; committed = fits-zero-row }
+
+pub fits-after : {v : Latest} {e : Entry} → FitsLatest v → FitsEntry e → FitsLatest (latestAfter v e)
+unfolding latestAfter
+fits-after {v} {e} f new = go (leb (e .key) highestKey)
+  where
+    go : (b : Bool) → FitsLatest (cond b (record { values = set (v .values) (e .key) (e .value) }) v)
+    go true =
+        record {
+          slots = length-set (v .values) (e .key) (e .value) ∙ f .slots;
+          each = all-set (λ n. n ≤ limit) (v .values) 0 keys (omega (arith, f .slots)) (f .each) (e .key) (e .value) (new .value);
+        }
+    go false = f
+
+pub fits-over : {v : Latest} (es : List Entry) → FitsLatest v → FitEntries es → FitsLatest (latestOver v es)
+fits-over [] f all = f
+fits-over (e ∷ es) f all = fits-over es (fits-after f (all 0)) (λ i. all (suc i))
+
+pub fits-rows-of : {g : Log} → FitsLog g → (commit : ℕ) → FitsRows (rowsOf g commit)
+fits-rows-of {g} f commit = record { whole = fits-over (live g) fits-zero-row (fit-live f); committed = fits-over (take commit (live g)) fits-zero-row (fit-taken (live g) commit (fit-live f)) }

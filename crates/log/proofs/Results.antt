@@ -1,12 +1,14 @@
 -- Each public function's contract allows one result, whatever the arguments. Assumes nothing.
 use Prim.Native.Nat.{ℕ}
-use lib.ListN.{take}
 use Rattle.base.proofs.Results.{OneResult, one-result}
 use Rattle.log.specs.declared.Entry.{Entry}
 use Rattle.log.specs.declared.Log.{Log}
-use Rattle.log.specs.Entries.{appliedTime, commonBeginning, entryAt, equalAt, hasEntry, isBeginning, lastTerm, latestValue, sameEntry, zeroEntry}
-use Rattle.log.specs.Logs.{appended, emptyLog, hasRoom, joined, kept, lengthOf, live, mayAsk}
+use Rattle.log.specs.Entries.{appliedTime, commonBeginning, entryAt, equalAt, hasEntry, isBeginning, lastTerm, sameEntry, zeroEntry}
+use Rattle.log.specs.Logs.{appended, emptyLog, hasRoom, joined, kept, latestIn, lengthOf, live, mayAsk}
 use Rattle.log.specs.Order.{entryOk, inOrder, isEmptyLog, logOk, placeOk, restZero}
+use Rattle.log.specs.declared.rows.Latest.{Latest}
+use Rattle.log.specs.declared.rows.Rows.{Rows}
+use Rattle.log.specs.Rows.{valueFor, latestAfter, latestOver, between, rowsOf, rowsOk}
 use Rattle.log.proofs.zero_entry.Reads as zero-entry-reads
 use Rattle.log.proofs.empty_log.Reads as empty-log-reads
 use Rattle.log.proofs.same_entry.Reads as same-entry-reads
@@ -30,6 +32,11 @@ use Rattle.log.proofs.in_order.Reads as in-order-reads
 use Rattle.log.proofs.rest_zero.Reads as rest-zero-reads
 use Rattle.log.proofs.is_empty_log.Reads as is-empty-log-reads
 use Rattle.log.proofs.log_ok.Reads as log-ok-reads
+use Rattle.log.proofs.rows.value_for.Reads as value-for-reads
+use Rattle.log.proofs.rows.latest_after.Reads as latest-after-reads
+use Rattle.log.proofs.rows.latest_over.Reads as latest-over-reads
+use Rattle.log.proofs.rows.rows_of.Reads as rows-of-reads
+use Rattle.log.proofs.rows.rows_ok.Reads as rows-ok-reads
 
 pub zero-entry : OneResult (λ x. zero-entry-reads.Learnt tt tt x tt)
 zero-entry = one-result zeroEntry
@@ -80,7 +87,7 @@ pub join : (a b : Log) (k : ℕ) → OneResult (λ x. join-reads.Learnt tt (a, (
 join a b k = one-result (joined a b k)
 
 pub latest-value : (g : Log) (key n : ℕ) → OneResult (λ x. latest-value-reads.Learnt tt (g, (key, (n, tt))) x (g, (key, (n, tt))))
-latest-value g key n = one-result (latestValue key (take n (live g)))
+latest-value g key n = one-result (latestIn g key n)
 
 pub entry-ok : (term : ℕ) (e : Entry) → OneResult (λ x. entry-ok-reads.Learnt tt (term, (e, tt)) x (term, (e, tt)))
 entry-ok term e = one-result (entryOk term e)
@@ -99,3 +106,18 @@ is-empty-log g = one-result (isEmptyLog g)
 
 pub log-ok : (g : Log) (term : ℕ) → OneResult (λ x. log-ok-reads.Learnt tt (g, (term, tt)) x (g, (term, tt)))
 log-ok g term = one-result (logOk term g)
+
+pub value-for : (v : Latest) (key : ℕ) → OneResult (λ x. value-for-reads.Learnt tt (v, (key, tt)) x (v, (key, tt)))
+value-for v key = one-result (valueFor v key)
+
+pub latest-after : (v : Latest) (e : Entry) → OneResult (λ x. latest-after-reads.Learnt tt (v, (e, tt)) x (v, (e, tt)))
+latest-after v e = one-result (latestAfter v e)
+
+pub latest-over : (v : Latest) (g : Log) (k n : ℕ) → OneResult (λ x. latest-over-reads.Learnt tt (v, (g, (k, (n, tt)))) x (v, (g, (k, (n, tt)))))
+latest-over v g k n = one-result (latestOver v (between g k n))
+
+pub rows-of : (g : Log) (commit : ℕ) → OneResult (λ x. rows-of-reads.Learnt tt (g, (commit, tt)) x (g, (commit, tt)))
+rows-of g commit = one-result (rowsOf g commit)
+
+pub rows-ok : (r : Rows) (g : Log) (commit : ℕ) → OneResult (λ x. rows-ok-reads.Learnt tt (r, (g, (commit, tt))) x (r, (g, (commit, tt))))
+rows-ok r g commit = one-result (rowsOk r g commit)

@@ -2,4 +2,5 @@
 pub mod Entries
 pub mod Logs
 pub mod Order
+pub mod Rows
 pub mod Ranges

@@ -7,7 +7,7 @@ use lib.ListN.{length, take, set, replicate}
 use Rattle.base.specs.Lists.{joinedAt}
 use Rattle.log.specs.declared.Entry.{Entry}
 use Rattle.log.specs.declared.Log.{Log}
-use Rattle.log.specs.Entries.{zeroEntry}
+use Rattle.log.specs.Entries.{zeroEntry, latestValue}
 
 -- a log keeps at most 128 entries
 abbrev pub logLimit : ℕ
@@ -46,3 +46,7 @@ appended g e = cond (hasRoom g) (record { entries = set (g .entries) (g .len) e;
 -- the first k slots of a, and then the rest of b, of b's length
 abbrev pub joined : Log → Log → ℕ → Log
 joined a b k = record { entries = joinedAt k (a .entries) (b .entries); len = b .len }
+
+-- the value of the last entry for the key among the first n, 0 if none
+abbrev pub latestIn : Log → ℕ → ℕ → ℕ
+latestIn g key n = latestValue key (take n (live g))

@@ -1,11 +1,12 @@
 // Entries, and one log by value: an entry array beside its length, slots past the length zero.
 ghost use mathlib.Core.Path.{_≡_};
 ghost use Prim.Native.Nat.{min};
-ghost use lib.ListN.{take};
-ghost use Rattle.log.specs.Entries.{zeroEntry, sameEntry, entryAt, lastTerm, appliedTime, commonBeginning, isBeginning, equalAt, hasEntry, latestValue};
-ghost use Rattle.log.specs.Logs.{mayAsk, emptyLog, kept, live, lengthOf, hasRoom, appended, joined};
+ghost use Rattle.log.specs.Entries.{zeroEntry, sameEntry, entryAt, lastTerm, appliedTime, commonBeginning, isBeginning, equalAt, hasEntry};
+ghost use Rattle.log.specs.Logs.{mayAsk, emptyLog, kept, live, lengthOf, hasRoom, appended, joined, latestIn};
 ghost use Rattle.log.specs.Order.{entryOk, placeOk, inOrder, restZero, isEmptyLog, logOk};
 use clock::Time;
+
+pub mod rows;
 
 pub struct Entry {
     pub term: u16,
@@ -232,7 +233,7 @@ pub fn join(a: Log, b: Log, k: usize) -> Log
 }
 
 // The last position that counts where the first n entries do.
-fn last_of(g: Log, n: usize) -> usize
+pub(crate) fn last_of(g: Log, n: usize) -> usize
     ensures { λ r. ⌜ r ≡ min n (lengthOf g) ⌝ }
 {
     let len = length_of(g);
@@ -241,7 +242,7 @@ fn last_of(g: Log, n: usize) -> usize
 
 // The value of the last entry for the key among the first n, looked for from the newest end; 0 if there is none.
 pub fn latest_value(g: Log, key: u8, n: usize) -> u16
-    ensures { λ r. ⌜ r ≡ latestValue key (take n (live g)) ⌝ }
+    ensures { λ r. ⌜ r ≡ latestIn g key n ⌝ }
 {
     let mut i = last_of(g, n);
     let value = loop {

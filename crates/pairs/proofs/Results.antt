@@ -2,6 +2,7 @@
 use Prim.Native.Nat.{ℕ, max}
 use Rattle.base.proofs.Results.{OneResult, one-result}
 use Rattle.log.specs.declared.Log.{Log}
+use Rattle.log.specs.declared.rows.Latest.{Latest}
 use Rattle.cluster.specs.declared.Server.{Server}
 use Rattle.pairs.specs.Hears.{hearsOf, staysPrimary, takesCommit}
 use Rattle.pairs.specs.Pulls.{mayJoin, pullsOf, tookOf}
@@ -33,8 +34,8 @@ stays-primary s t = one-result (staysPrimary s t)
 pub hears : (s t : Server) → OneResult (λ x. hears-reads.Learnt tt (s, (t, tt)) x (s, (t, tt)))
 hears s t = one-result (hearsOf s t)
 
-pub took : (s t : Server) (g : Log) → OneResult (λ x. took-reads.Learnt tt (s, (t, (g, tt))) x (s, (t, (g, tt))))
-took s t g = one-result (tookOf s t g)
+pub took : (s t : Server) (g : Log) (v : Latest) → OneResult (λ x. took-reads.Learnt tt (s, (t, (g, (v, tt)))) x (s, (t, (g, (v, tt)))))
+took s t g v = one-result (tookOf s t g v)
 
 pub may-join : (g h : Log) (n : ℕ) → OneResult (λ x. may-join-reads.Learnt tt (g, (h, (n, tt))) x (g, (h, (n, tt))))
 may-join g h n = one-result (mayJoin g h n)

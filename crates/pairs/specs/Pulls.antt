@@ -4,10 +4,12 @@ use mathlib.Core.Bool.{Bool, not, _||_}
 use Prim.Native.Nat.{ℕ, max}
 use lib.Dec.{eqb, ltb}
 use Rattle.log.specs.declared.Log.{Log}
+use Rattle.log.specs.declared.rows.Latest.{Latest}
 use Rattle.log.specs.Entries.{equalAt}
 use Rattle.log.specs.Logs.{live, lengthOf, joined}
+use Rattle.log.specs.Rows.{latestOver, between}
 use Rattle.cluster.specs.declared.Server.{Server}
-use Rattle.cluster.specs.Servers.{withCommit, withHead, withLog}
+use Rattle.cluster.specs.Servers.{withCommit, withHead, withLog, withWhole, withCommitted, committedTo}
 use Rattle.steps.specs.declared.Stepped.{Stepped}
 use Rattle.steps.specs.declared.Refusal.the-variants.{WrongRole, ConditionUnmet}
 use Rattle.steps.specs.Refusals.{Rules, decided}
@@ -27,14 +29,23 @@ pullRules s t =
     ∷ (mayJoin (s .log) (t .log) (lengthOf (s .log)), ConditionUnmet)
     ∷ []
 
--- a with the log g; term, cluster time and commit point each the greater of both
-unfoldable pub tookOf : Server → Server → Log → Server
-tookOf s t g =
-    withLog (withHead s (withCommit (raisedTo (s .head) (t .head)) (max (s .head .commit) (t .head .commit)))) g
+-- the greater commit point of both
+abbrev pub tookCommit : Server → Server → ℕ
+tookCommit s t = max (s .head .commit) (t .head .commit)
+
+-- a with the log g and its row v; term, cluster time and commit point each the greater of both, and the row of the committed beginning with it
+unfoldable pub tookOf : Server → Server → Log → Latest → Server
+tookOf s t g v =
+    withCommitted (withWhole (withLog (withHead s (withCommit (raisedTo (s .head) (t .head)) (tookCommit s t))) g) v) (committedTo s g (tookCommit s t))
 
 -- a's log gets the rest of b's
+abbrev pub pulledLog : Server → Server → Log
+pulledLog s t = joined (s .log) (t .log) (lengthOf (s .log))
+
+-- and its row the entries that came
 abbrev pub pulledOf : Server → Server → Server
-pulledOf s t = tookOf s t (joined (s .log) (t .log) (lengthOf (s .log)))
+pulledOf s t =
+    tookOf s t (pulledLog s t) (latestOver (s .rows .whole) (between (pulledLog s t) (lengthOf (s .log)) (lengthOf (pulledLog s t))))
 
 -- the answer is the new length; b is told
 abbrev pub pullDone : Server → Server → ℕ → ℕ → Stepped

@@ -4,7 +4,9 @@ use mathlib.Core.Bool.{not}
 use Prim.Native.Nat.{ℕ}
 use lib.Dec.{ltb, leb}
 use Rattle.log.specs.Entries.{lastTerm, commonBeginning, isBeginning}
+use Rattle.log.specs.declared.Log.{Log}
 use Rattle.log.specs.Logs.{live, lengthOf, joined}
+use Rattle.log.specs.Rows.{zeroRow, latestOver}
 use Rattle.cluster.specs.declared.Server.{Server}
 use Rattle.steps.specs.declared.Stepped.{Stepped}
 use Rattle.steps.specs.declared.Refusal.the-variants.{WrongRole, ConditionUnmet, BelowCommitPoint}
@@ -27,9 +29,13 @@ rollRules s t =
     ∷ (leb (s .head .commit) (common s t), BelowCommitPoint)
     ∷ []
 
--- a keeps the longest common beginning, then the rest of b's log; term, cluster time, commit point as in 4
+-- a keeps the longest common beginning, then the rest of b's log
+abbrev pub rolledLog : Server → Server → Log
+rolledLog s t = joined (s .log) (t .log) (common s t)
+
+-- its row is made anew from that; term, cluster time, commit point as in 4
 abbrev pub rolledOf : Server → Server → Server
-rolledOf s t = tookOf s t (joined (s .log) (t .log) (common s t))
+rolledOf s t = tookOf s t (rolledLog s t) (latestOver zeroRow (live (rolledLog s t)))
 
 -- the answer is the new length; b is told
 abbrev pub rollDone : Server → Server → ℕ → ℕ → Stepped

@@ -4,6 +4,7 @@ ghost use Rattle.pairs.specs.Hears.{takesCommit, staysPrimary, hearsOf};
 use super::greater_term;
 use cluster::Head;
 use cluster::Server;
+use log::rows::Rows;
 use steps::Answer;
 use steps::Sends;
 use steps::Stepped;
@@ -43,6 +44,9 @@ pub fn hears(s: Server, t: Server) -> Stepped
     if takes_commit(s, t) {
         commit = t.head.commit;
     }
+    let g = s.log;
+    let rows = s.rows;
+    let committed = cluster::committed_to(s, g, commit);
     Stepped {
         server: Server {
             head: Head {
@@ -51,6 +55,10 @@ pub fn hears(s: Server, t: Server) -> Stepped
                 commit: commit,
                 time: time,
                 ..h
+            },
+            rows: Rows {
+                committed: committed,
+                ..rows
             },
             ..s
         },

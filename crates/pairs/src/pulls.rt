@@ -7,12 +7,14 @@ use super::reports::sent;
 use cluster::Head;
 use cluster::Server;
 use log::Log;
+use log::rows::Latest;
+use log::rows::Rows;
 use steps::Refusal;
 use steps::Stepped;
 
-// Server a with the log g, and the greater term, cluster time and commit point of both.
-pub fn took(s: Server, t: Server, g: Log) -> Server
-    ensures { λ r. ⌜ r ≡ tookOf s t g ⌝ }
+// Server a with the log g and its row, and the greater term, cluster time and commit point of both.
+pub fn took(s: Server, t: Server, g: Log, whole: Latest) -> Server
+    ensures { λ r. ⌜ r ≡ tookOf s t g whole ⌝ }
 {
     let h = s.head;
     let x = h.time;
@@ -20,6 +22,7 @@ pub fn took(s: Server, t: Server, g: Log) -> Server
     let time = clock::later(x, y);
     let term = greater_term(h.term, t.head.term);
     let commit = greater(h.commit, t.head.commit);
+    let committed = cluster::committed_to(s, g, commit);
     Server {
         head: Head {
             term: term,
@@ -28,6 +31,10 @@ pub fn took(s: Server, t: Server, g: Log) -> Server
             ..h
         },
         log: g,
+        rows: Rows {
+            whole: whole,
+            committed: committed,
+        },
         ..s
     }
 }
@@ -58,5 +65,8 @@ pub fn pulls(s: Server, t: Server, a: u8, b: u8) -> Stepped
         return steps::refuse(s, Refusal::ConditionUnmet);
     }
     let joined = log::join(g, h, n);
-    sent(took(s, t, joined), a, b)
+    let rows = s.rows;
+    let before = rows.whole;
+    let whole = log::rows::latest_over(before, joined, n, log::length_of(joined));
+    sent(took(s, t, joined, whole), a, b)
 }

@@ -29,5 +29,6 @@ pub fn rolls_back(s: Server, t: Server, a: u8, b: u8) -> Stepped
         return steps::refuse(s, Refusal::BelowCommitPoint);
     }
     let joined = log::join(g, h, k);
-    sent(took(s, t, joined), a, b)
+    let whole = log::rows::latest_over(log::rows::ZERO_ROW, joined, 0, log::length_of(joined));
+    sent(took(s, t, joined, whole), a, b)
 }

@@ -6,24 +6,19 @@ use Prim.Native.Nat.{ℕ, _<_, _≤_}
 use native.Mathlib.Omega.{arith}
 use lib.ListN.{length}
 use lib.Seq.{length-take-le}
-use lib.Dec.{ltb}
-use borrow.Author.Tests.{ltb-true, not-true}
+use borrow.Author.Tests.{ltb-true}
 use Rattle.clock.specs.declared.Time.{Time}
 use Rattle.clock.specs.Times.{isBefore}
 use Rattle.clock.proofs.Order.{not-after-trans}
-use Rattle.log.specs.Entries.{entryAt, latestValue}
+use Rattle.log.specs.Entries.{entryAt}
 use Rattle.log.specs.Logs.{live, lengthOf}
 use Rattle.log.specs.Ranges.{FitsLog}
-use Rattle.log.proofs.Latest.{found, latest-found}
+use Rattle.log.proofs.Latest.{found, latest-found, key-of, value-of, found-at}
 use Rattle.log.proofs.Live.{entryAt-take}
 use Rattle.cluster.specs.declared.Server.{Server}
 use Rattle.cluster.specs.declared.Cluster.{Cluster}
 use Rattle.cluster.specs.Servers.{serverCount, serverAt}
-use Rattle.steps.specs.declared.Step.the-variants.{MajorityRead}
-use Rattle.steps.specs.declared.Answer.the-variants.{Value}
 use Rattle.reads.specs.MajorityRead.{commitTime, covered}
-use Rattle.rules.specs.Rules.{rowOf, stepOf}
-use Rattle.rules.proofs.Outcomes.{answered-done}
 use Rattle.safety.specs.Cluster.{Holds}
 use Rattle.safety.specs.Steps.{Walk}
 use Rattle.safety.specs.Demand3.{LastFor, Demand3}
@@ -34,10 +29,10 @@ use Rattle.safety.proofs.Quorum.{majorities, majority-count}
 use Rattle.safety.proofs.Time.{stamp-before, not-before-stamp}
 use Rattle.safety.proofs.Joins.{commit-within}
 use Rattle.safety.proofs.Demand3.{demand3}
-use Rattle.promises.proofs.Answered.{key-of, value-of, found-at}
 use Rattle.safety.proofs.Views.{fresh-seen, fits-time, same-entry, holds-beginning}
 use Rattle.safety.proofs.Stepped.{Now, never-9}
 use Rattle.promises.proofs.Turns.{led, reached}
+use Rattle.promises.proofs.Answered.{Answered, answered}
 
 -- ---- a read that is answered
 
@@ -52,18 +47,6 @@ found-is s key p within h =
 
     same : (j : ℕ) → j ≤ s .head .commit → entryAt (covered s) j ≡ entryAt (live (s .log)) j
     same j l = entryAt-take (s .head .commit) j (live (s .log)) l
-
--- what a read gives where it is answered
-record Answered (c : Cluster) (q key : ℕ) (asked : Time) (v : ℕ) : Type 0 where
-  below : ltb q (serverCount c) ≡ true
-  reached : isBefore (commitTime (serverAt c q)) asked ≡ false
-  value : latestValue key (covered (serverAt c q)) ≡ v
-
-answered : (c : Cluster) (q key : ℕ) (asked : Time) (v : ℕ) (t : Time) → stepOf c (MajorityRead q key asked) .answer ≡ Value v t → Answered c q key asked v
-unfolding rowOf
-answered c q key asked v t a =
-    let d = answered-done c (MajorityRead q key asked) a refl in
-    record { below = d .clear .0; reached = not-true _ (d .clear .1 .1 .0); value = cc (d .answers) }
 
 -- ---- what is covered once
 
@@ -84,8 +67,8 @@ module _ {n : ℕ} {some : 0 < n} {x y : Cluster} (X : Now n some x) (Y : Now n 
   held : (i : ℕ) → i < n → Holds k (view x s .log) (view y i) → holds y (firstOf x s k) i ≡ true
   held i h = holds-beginning (serverAt x s) (serverAt y i) log-x (log-y i h) long
 
-  shown : (q : ℕ) (asked : Time) (v : ℕ) → isBefore asked (entryOf x s k .time) ≡ false → Answered y q (entryOf x s k .key) asked v → Shows y q (entryOf x s k) k v
-  shown q asked v late a =
+  shown : (q : ℕ) (asked : Time) (v : ℕ) (u : Time) → isBefore asked (entryOf x s k .time) ≡ false → Answered y q (entryOf x s k .key) asked v u → Shows y q (entryOf x s k) k v
+  shown q asked v u late a =
       let e = entryOf x s k in
       let t = serverAt y q in
       let hq : q < n = omega (arith, ltb-true q (serverCount y) (a .below), Y .counted) in
@@ -111,7 +94,7 @@ module _ {n : ℕ} {some : 0 < n} {x y : Cluster} (X : Now n some x) (Y : Now n 
         majority = rw (Y .counted) (majority-count n (holds y (firstOf x s k)) _ held (seen .majority));
         primaries = λ i l p t. held i (omega (arith, Y .counted)) (seen .primaries i p t);
         commits = λ i l h. held i (omega (arith, Y .counted)) (seen .commits i h);
-        reads = λ q asked v t late a. shown q asked v late (answered y q _ asked v t a);
+        reads = λ q asked v t late a. shown q asked v t late (answered y (Y .fits) q _ asked v t a);
       }
 
 -- ---- the promise

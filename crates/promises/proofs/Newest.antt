@@ -16,7 +16,7 @@ use Rattle.log.specs.Entries.{entryAt, latestValue}
 use Rattle.log.specs.Logs.{live, lengthOf}
 use Rattle.log.specs.Ranges.{FitsLog}
 use Rattle.log.proofs.Common.{first-beginning}
-use Rattle.log.proofs.Latest.{found, latest-found, found-le, found-key, found-last}
+use Rattle.log.proofs.Latest.{found, latest-found, found-le, found-key, found-last, key-of, value-of, latest-first}
 use Rattle.log.proofs.Live.{entryAt-take}
 use Rattle.log.proofs.Positions as P
 use Rattle.cluster.specs.declared.Cluster.{Cluster}
@@ -33,7 +33,6 @@ use Rattle.safety.proofs.Time.{stamp-before}
 use Rattle.safety.proofs.Joins.{commit-within, times-ordered}
 use Rattle.safety.proofs.NewestSeen as S
 use Rattle.safety.proofs.Views.{fresh-seen, fits-time, first-same}
-use Rattle.promises.proofs.Answered.{key-of, value-of, latest-first}
 use Rattle.promises.proofs.SeenNewest.{Asked, asked-of, Read, read-of}
 use Rattle.safety.proofs.Stepped.{Now}
 use Rattle.promises.proofs.Turns.{then, next, led, reached}

@@ -9,7 +9,7 @@ use native.Mathlib.Nat.{le-of-suc-le-suc}
 use native.Mathlib.Omega.{arith}
 use lib.Dec.{eqb}
 use lib.ListN.{length, getD}
-use borrow.Author.Tests.{ltb-true, le-leb, eqb-true, eq-eqb, ne-eqb, not-true}
+use borrow.Author.Tests.{ltb-true, le-leb, eqb-true, eq-eqb, ne-eqb}
 use Rattle.base.proofs.Bools.{and-both, and-no, or-left, or-right}
 use Rattle.base.proofs.Every.{every-all}
 use Rattle.base.proofs.Facts.{lt-or-le}
@@ -29,12 +29,12 @@ use Rattle.cluster.specs.Servers.{serverCount, serverAt}
 use Rattle.steps.specs.declared.Step.the-variants.{MajorityRead}
 use Rattle.steps.specs.declared.Answer.the-variants as A
 use Rattle.reads.specs.MajorityRead.{commitTime, covered}
-use Rattle.rules.specs.Rules.{rowOf, stepOf}
-use Rattle.rules.proofs.Outcomes.{answered-done}
+use Rattle.rules.specs.Rules.{stepOf}
 use Rattle.safety.proofs.Stepped.{Now}
 use Rattle.histories.specs.declared.PhoneRecord.{PhoneRecord}
 use Rattle.histories.specs.Rules.{noRecord, recordInRange, lastWhere, knownTime, readable, valueAt, notBefore, keepsOrder, readObeys, obeys}
 use Rattle.promises.specs.Honest.{recordOfRead, AsksLatest}
+use Rattle.promises.proofs.Answered.{answered}
 use Rattle.promises.proofs.Moments.{all-counted, covered-long}
 
 -- ---- time and value, against a log
@@ -135,16 +135,13 @@ module _ {n : ℕ} {some : 0 < n} {c : Cluster} (N : Now n some c) {es : List En
       → stepOf c (MajorityRead q key asked) .answer ≡ A.Value value time → AsksLatest rs session asked
       → let r = recordOfRead session key value position time in
       (recordInRange r ≡ true) × (obeys es rs r ≡ true)
-  unfolding rowOf recordInRange obeys readObeys
+  unfolding recordInRange obeys readObeys
   read-obeys q key asked session value position time rs told asks =
-      let d = answered-done c (MajorityRead q key asked) told refl in
-      let b = within q (omega (arith, ltb-true q (serverCount c) (d .clear .0), all-counted N)) in
-      let v : latestValue key (covered (serverAt c q)) ≡ value = cc (d .answers) in
-      let u : commitTime (serverAt c q) ≡ time = cc (d .answers) in
-      let t : appliedTime (covered (serverAt c q)) ≡ time = applied-is q ∙ u in
-      let late : isBefore (commitTime (serverAt c q)) asked ≡ false = not-true _ (d .clear .1 .1 .0) in (
-        and-both _ _ (d .clear .1 .0) refl,
+      let a = answered c (N .fits) q key asked value time told in
+      let b = within q (omega (arith, ltb-true q (serverCount c) (a .below), all-counted N)) in
+      let t : appliedTime (covered (serverAt c q)) ≡ time = applied-is q ∙ a .time in (
+        and-both _ _ (a .a-key) refl,
         and-both _ _ (rw t at (time-known o b))
-            (and-both _ _ (eq-eqb _ _ (rw t at (same-value o b key) ∙ v))
-            (in-order rs (recordOfRead session key value position time) asked asks (rw u at late))),
+            (and-both _ _ (eq-eqb _ _ (rw t at (same-value o b key) ∙ a .value))
+            (in-order rs (recordOfRead session key value position time) asked asks (rw (a .time) at (a .reached)))),
       )

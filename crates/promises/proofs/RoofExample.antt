@@ -15,6 +15,7 @@ use Rattle.log.specs.declared.Entry.{Entry}
 use Rattle.log.specs.Entries.{sameEntry, entryAt, equalAt, commonBeginning, latestValue}
 use Rattle.log.specs.Logs.{live, hasRoom, appended}
 use Rattle.log.specs.Order.{entryOk, follows, placeOk, inOrder, restZero, isEmptyLog, logOk}
+use Rattle.log.specs.Rows.{latestAfter, rowOk, rowsOk}
 use Rattle.mail.specs.Reports.{givesWay}
 use Rattle.mail.specs.Queues.{queued, oldestTaken}
 use Rattle.mail.specs.Mails.{noted}
@@ -63,7 +64,7 @@ build term value l = record { term = term; key = 5; value = value; time = record
 
 -- the record at the moment, before the rollback, and at the end
 unfoldable pub moment : Cluster
-unfolding every count highest eachFrom isBefore sameTime laterOf tickOf sameEntry entryAt equalAt commonBeginning latestValue hasRoom appended entryOk follows placeOk inOrder restZero isEmptyLog logOk givesWay queued oldestTaken noted isUnused isUsed noteOk notesOk slotOk queueOk sourceOk mailOk startedOf votedOf member isWithin numbersOk countedOk zeroOk serverOk wellFormed tookOf stampedOf forwards notBehind mayVote allMayVote backs passes highestPassing delivered rowOf coreOf stepOf
+unfolding every count highest eachFrom isBefore sameTime laterOf tickOf sameEntry entryAt equalAt commonBeginning latestValue hasRoom appended entryOk follows placeOk inOrder restZero isEmptyLog logOk givesWay queued oldestTaken noted isUnused isUsed noteOk notesOk slotOk queueOk sourceOk mailOk startedOf votedOf member isWithin numbersOk countedOk zeroOk latestAfter rowOk rowsOk serverOk wellFormed tookOf stampedOf forwards notBehind mayVote allMayVote backs passes highestPassing delivered rowOf coreOf stepOf
 moment = runTo (freshCluster 3) (coming until)
 
 pub between : Cluster

@@ -1,2 +1,3 @@
 -- Laws of the kinds that only ask. Assumes nothing.
+pub mod Walks
 pub mod Results

@@ -7,6 +7,9 @@ use Rattle.reads.specs.Acknowledged.{acknowledgedOf}
 use Rattle.reads.specs.LocalRead.{localReadOf}
 use Rattle.reads.specs.MajorityRead.{majorityReadOf}
 use Rattle.reads.specs.NewestRead.{newestReadOf}
+use Rattle.reads.specs.Lists.{wholeList, committedList}
+use Rattle.reads.proofs.lists.whole_list.Reads as whole-list-reads
+use Rattle.reads.proofs.lists.committed_list.Reads as committed-list-reads
 use Rattle.reads.proofs.local_read.local_read.Reads as local-read-reads
 use Rattle.reads.proofs.majority_read.majority_read.Reads as majority-read-reads
 use Rattle.reads.proofs.acknowledged.acknowledged.Reads as acknowledged-reads
@@ -23,3 +26,9 @@ acknowledged size s k n term = one-result (acknowledgedOf size s k n term)
 
 pub newest-read : (s : Server) (key n term : ℕ) → OneResult (λ x. newest-read-reads.Learnt tt (s, (key, (n, (term, tt)))) x (s, (key, (n, (term, tt)))))
 newest-read s key n term = one-result (newestReadOf s key n term)
+
+pub whole-list : (s : Server) → OneResult (λ x. whole-list-reads.Learnt tt (s, tt) x (s, tt))
+whole-list s = one-result (wholeList s)
+
+pub committed-list : (s : Server) → OneResult (λ x. committed-list-reads.Learnt tt (s, tt) x (s, tt))
+committed-list s = one-result (committedList s)

@@ -4,8 +4,9 @@ use Prim.Native.Nat.{ℕ}
 use lib.ListN.{take}
 use Rattle.clock.specs.declared.Time.{Time}
 use Rattle.log.specs.declared.Entry.{Entry}
-use Rattle.log.specs.Entries.{entryAt, latestValue}
+use Rattle.log.specs.Entries.{entryAt}
 use Rattle.log.specs.Logs.{live}
+use Rattle.log.specs.Rows.{valueFor}
 use Rattle.cluster.specs.declared.Server.{Server}
 use Rattle.steps.specs.declared.Sends.the-variants.{Nothing}
 use Rattle.steps.specs.declared.Stepped.{Stepped}
@@ -22,12 +23,12 @@ commitTime s = entryAt (live (s .log)) (s .head .commit) .time
 abbrev pub covered : Server → List Entry
 covered s = take (s .head .commit) (live (s .log))
 
--- the value of the last entry for the key in the first commit-point entries, with the commit time
+-- the value of the last entry for the key in the first commit-point entries, which their row has, with the commit time
 abbrev pub majorityRules : Server → ℕ → Time → Rules
 majorityRules s key asked = readRules key (commitTime s) asked
 
 abbrev pub majorityDone : Server → ℕ → Stepped
-majorityDone s key = record { server = s; answer = Value (latestValue key (covered s)) (commitTime s); sends = Nothing }
+majorityDone s key = record { server = s; answer = Value (valueFor (s .rows .committed) key) (commitTime s); sends = Nothing }
 
 abbrev pub majorityReadOf : Server → ℕ → Time → Stepped
 majorityReadOf s key asked = decided (refusing s) (majorityDone s key) (majorityRules s key asked)

@@ -2,9 +2,8 @@
 use mathlib.Core.List.{[], _∷_}
 use Prim.Native.Nat.{ℕ}
 use lib.Dec.{eqb, leb}
-use lib.ListN.{take}
-use Rattle.log.specs.Entries.{entryAt, hasEntry, latestValue}
-use Rattle.log.specs.Logs.{mayAsk, live}
+use Rattle.log.specs.Entries.{entryAt, hasEntry}
+use Rattle.log.specs.Logs.{mayAsk, live, latestIn}
 use Rattle.log.specs.Order.{highestKey}
 use Rattle.cluster.specs.declared.Server.{Server}
 use Rattle.steps.specs.declared.Sends.the-variants.{Nothing}
@@ -28,7 +27,7 @@ newestRules s key n term =
 -- the value of the last entry for the key in the first n entries, with the time of the nth
 abbrev pub newestDone : Server → ℕ → ℕ → Stepped
 newestDone s key n =
-    record { server = s; answer = Value (latestValue key (take n (live (s .log)))) (entryAt (live (s .log)) n .time); sends = Nothing }
+    record { server = s; answer = Value (latestIn (s .log) key n) (entryAt (live (s .log)) n .time); sends = Nothing }
 
 abbrev pub newestReadOf : Server → ℕ → ℕ → ℕ → Stepped
 newestReadOf s key n term = decided (refusing s) (newestDone s key n) (newestRules s key n term)

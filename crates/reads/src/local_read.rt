@@ -19,10 +19,11 @@ pub fn local_read(s: Server, key: u8, asked: Time) -> Stepped
     if clock::is_before(reached, asked) {
         return steps::refuse(s, Refusal::NotYet);
     }
-    let n = log::length_of(g);
+    let rows = s.rows;
+    let whole = rows.whole;
     Stepped {
         server: s,
-        answer: Answer::Value(log::latest_value(g, key, n), reached),
+        answer: Answer::Value(log::rows::value_for(whole, key), reached),
         sends: Sends::Nothing,
     }
 }

@@ -20,9 +20,11 @@ pub fn majority_read(s: Server, key: u8, asked: Time) -> Stepped
     if clock::is_before(reached, asked) {
         return steps::refuse(s, Refusal::NotYet);
     }
+    let rows = s.rows;
+    let committed = rows.committed;
     Stepped {
         server: s,
-        answer: Answer::Value(log::latest_value(g, key, n), reached),
+        answer: Answer::Value(log::rows::value_for(committed, key), reached),
         sends: Sends::Nothing,
     }
 }

@@ -6,10 +6,9 @@ use Prim.Native.Nat.{ℕ, _-_, _<_, _≤_}
 use native.Mathlib.Omega.{arith}
 use lib.Dec.{eqb, ltb}
 use borrow.Author.Tests.{eqb-false, ltb-true, leb-true, lt-ltb, le-ltb, not-true}
-use Rattle.base.proofs.Bools.{and-left, or-cases, not-both}
+use Rattle.base.proofs.Bools.{and-left, and-right, or-cases, not-both}
 use Rattle.base.proofs.Every.{every-at}
 use Rattle.base.proofs.Greatest.{greatest-above, greatest-below}
-use Rattle.base.proofs.Highest.{highest-le}
 use Rattle.clock.specs.Times.{limit}
 use Rattle.clock.proofs.Order.{before-itself, later-left}
 use Rattle.log.specs.Logs.{lengthOf}
@@ -36,7 +35,8 @@ use Rattle.base.specs.Numbers.{byte}
 use Rattle.steps.specs.Ranges.{FitsStep}
 use Rattle.steps.specs.Reasons.{Clear}
 use Rattle.wholes.specs.Elects.{mayVote, allMayVote, electRules, newTerm}
-use Rattle.counts.specs.Advances.{passes, highestPassing, advanceDone}
+use Rattle.counts.specs.Advances.{passes, advanceRules, advanceDone}
+use Rattle.counts.proofs.Passing.{passing-passes}
 use Rattle.wholes.specs.Starts.{startRules}
 use Rattle.wholes.specs.ClocksAgree.{greatestClock}
 use Rattle.pairs.specs.Reports.{reportOf, sentOf}
@@ -110,9 +110,13 @@ module _ {c : Cluster} (h : Sound c) where
       to = greatest-below (λ j. serverAt c j .head .wall) (serverCount c) limit (λ i l. h .fits .each i (omega arith) .head .wall)
 
   -- a position that passes is one of the log
-  advanced-sound : (a : ℕ) → ltb a (serverCount c) ≡ true → Sound (advanceDone c a .cluster)
-  unfolding highestPassing
-  advanced-sound a e = put a _ e (λ x. committed-sound x _ (highest-le (passes (serverCount c) (serverAt c a) a) (lengthOf (serverAt c a .log))))
+  advanced-sound : (a : ℕ) → Clear (advanceRules c a) → Sound (advanceDone c a .cluster)
+  unfolding passes
+  advanced-sound a k =
+      let p = passing-passes (serverCount c) (serverAt c a) a (leb-true 1 _ (k .1 .1 .0)) in
+      let up = ltb-true (serverAt c a .head .commit) _ (and-left _ _ p) in
+      let to = leb-true _ (lengthOf (serverAt c a .log)) (and-left _ _ (and-right (ltb (serverAt c a .head .commit) _) _ p)) in
+      put a _ (k .0) (λ x. committed-sound x _ (omega arith) to)
 
 -- a used report that a counted server is sent
 delivered-sound : {c : Cluster} → Sound c → (b : ℕ) (r : Report) → b < c .count → UsedReport (c .count) r → FitsReport r → Sound (delivered c (To b r))
@@ -173,7 +177,7 @@ done-sound c (RollsBack a b) h f k =
 done-sound c (Writes a key value client) h f k =
     put (h refl) a _ (k .0) (λ x. appended-sound x key value (f .key) (f .number) (inl (leb-true _ _ (k .1 .0), leb-true _ _ (k .1 .1 .0)))
     _ (fits-later _ client (x .fits .head .time) (f .time)) (later-left (serverAt c a .head .time) client) (k .1 .1 .1 .1))
-done-sound c (Advances a) h f k = advanced-sound (h refl) a (k .0)
+done-sound c (Advances a) h f k = advanced-sound (h refl) a k
 done-sound c (WallClock a) h f k = put (h refl) a _ (k .0) (λ x. wall-sound x _ (omega arith) (omega (arith, ltb-true (serverAt c a .head .wall) limit (k .1 .0))))
 done-sound c (Restarts a) h f k = put (h refl) a _ (k .0) restarted-sound
 done-sound c (LocalRead a key asked) h f k = put (h refl) a _ (k .0) (λ x. x)

@@ -13,6 +13,7 @@ use Rattle.clock.specs.Times.{zeroTime, isBefore, sameTime, laterOf, tickOf}
 use Rattle.log.specs.Entries.{sameEntry, entryAt, latestValue}
 use Rattle.log.specs.Logs.{hasRoom, appended}
 use Rattle.log.specs.Order.{entryOk, follows, placeOk, inOrder, restZero, isEmptyLog, logOk}
+use Rattle.log.specs.Rows.{latestAfter, rowOk, rowsOk}
 use Rattle.cluster.specs.declared.Cluster.{Cluster}
 use Rattle.cluster.specs.Servers.{freshCluster, startedOf, serverAt, votedOf}
 use Rattle.cluster.specs.Sets.{member, isWithin}
@@ -64,7 +65,7 @@ record Runs : Type 0 where
   reads-none : stepOf written (reading 6) .answer ≡ A.Value 0 written-at
 
 runs : Runs
-unfolding every count highest eachFrom isBefore sameTime laterOf tickOf sameEntry entryAt latestValue hasRoom appended entryOk follows placeOk inOrder restZero isEmptyLog logOk isUnused isUsed noteOk notesOk slotOk queueOk sourceOk mailOk startedOf votedOf member isWithin numbersOk countedOk zeroOk serverOk wellFormed stampedOf notBehind mayVote allMayVote delivered rowOf coreOf stepOf
+unfolding every count highest eachFrom isBefore sameTime laterOf tickOf sameEntry entryAt latestValue hasRoom appended entryOk follows placeOk inOrder restZero isEmptyLog logOk isUnused isUsed noteOk notesOk slotOk queueOk sourceOk mailOk startedOf votedOf member isWithin numbersOk countedOk zeroOk latestAfter rowOk rowsOk serverOk wellFormed stampedOf notBehind mayVote allMayVote delivered rowOf coreOf stepOf
 runs =
     record {
       well-formed = refl;

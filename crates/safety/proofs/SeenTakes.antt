@@ -11,6 +11,7 @@ use borrow.Author.Tests.{ltb-true, leb-false, eqb-true, not-true}
 use Rattle.base.proofs.Bools.{or-cases}
 use Rattle.base.proofs.Joined.{length-joined}
 use Rattle.log.specs.declared.Log.{Log}
+use Rattle.log.specs.declared.rows.Latest.{Latest}
 use Rattle.log.specs.Entries.{entryAt, lastTerm, equalAt}
 use Rattle.log.specs.Logs.{live, lengthOf, joined}
 use Rattle.log.proofs.Common.{rolled-is}
@@ -42,13 +43,13 @@ use Rattle.safety.proofs.SeenQuiet.{Sees}
 tidy-at : (c : Cluster) → Good c → (a : ℕ) → ltb a (serverCount c) ≡ true → Tidy (serverAt c a .log)
 tidy-at c g a l = g .counted a (omega (arith, ltb-true a (serverCount c) l)) .log .tidy
 
--- a takes a log that looks like b's
-took : {𝓠 : Quorums} (c : Cluster) → Fits c → (a b : ℕ) → ltb a (serverCount c) ≡ true → serverAt c a .head .primary ≡ false → (g : Log)
+-- a takes a log that looks like b's, whatever its row
+took : {𝓠 : Quorums} (c : Cluster) → Fits c → (a b : ℕ) → ltb a (serverCount c) ≡ true → serverAt c a .head .primary ≡ false → (g : Log) (v : Latest)
     → Copies (view c a) (view c b) → lengthOf g ≡ view c b .len → Agree (view c b .len) (λ n. seenEntry (entryAt (live g) n)) (view c b .log)
-    → Goes 𝓠 (toldIn c) (view c) (view (putBack c a (sentOf a b (tookOf (serverAt c a) (serverAt c b) g)) .cluster))
+    → Goes 𝓠 (toldIn c) (view c) (view (putBack c a (sentOf a b (tookOf (serverAt c a) (serverAt c b) g v)) .cluster))
 unfolding tookOf
-took c f a b l secondary g may len log =
-    let o = sentOf a b (tookOf (serverAt c a) (serverAt c b) g) in
+took c f a b l secondary g v may len log =
+    let o = sentOf a b (tookOf (serverAt c a) (serverAt c b) g v) in
     let h = here c f a l o in
     takes a b
     (record {
@@ -81,7 +82,7 @@ sees-roll c f a b h =
     let t = serverAt c b in
     let r = h .1 .1 .1 in
     let e = rolled-is (s .log) (t .log) in
-    took c f a b (h .0) (not-true (s .head .primary) (r .0)) (joined (s .log) (t .log) (common s t))
+    took c f a b (h .0) (not-true (s .head .primary) (r .0)) (joined (s .log) (t .log) (common s t)) _
     (rollsBack (ltb-true _ _ (r .1 .1 .0))) (ap (λ (g : Log). lengthOf g) e)
     (λ n l. ap (λ (g : Log). seenEntry (entryAt (live g) n)) e)
 
@@ -99,7 +100,7 @@ module _ {𝓠 : Quorums} {u : ClusterSeen} (c : Cluster) (f : Fits c) (g : Good
       let y = tidy-at c g b (h .1 .0) in
       let e = live-joined x y k (omega arith) (omega arith) in
       let may : Copies (view c a) (view c b) = pulls (omega arith) last in
-      took c f a b (h .0) (not-true (s .head .primary) (r .0)) (joined (s .log) (t .log) k) may
+      took c f a b (h .0) (not-true (s .head .primary) (r .0)) (joined (s .log) (t .log) k) _ may
       (ap length e ∙ length-joined k (live (s .log)) (live (t .log)) (omega arith) (omega arith))
       (pulled start w a b (omega arith) last
       (λ n l. ap seenEntry (rw e (entryAt-joined-low k (live (s .log)) (live (t .log)) (omega arith) n l)))

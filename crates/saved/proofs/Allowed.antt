@@ -12,6 +12,7 @@ use Rattle.base.proofs.Bools.{and-both, and-left, and-right}
 use Rattle.base.proofs.Every.{every-at, every-all}
 use Rattle.log.specs.Logs.{logLimit, highestPosition, kept}
 use Rattle.log.specs.Order.{isEmptyLog, logOk}
+use Rattle.log.specs.Rows.{rowsOk}
 use Rattle.mail.specs.declared.Report.{Report}
 use Rattle.mail.specs.declared.Note.{Note}
 use Rattle.mail.specs.declared.Mail.{Mail}
@@ -61,7 +62,7 @@ server-allowed s count i short h =
 
 ok-allowed : (n i : ℕ) (s : Server) → serverOk n i s ≡ true → allowsServer newest s ≡ true
 unfolding serverOk countedOk logOk zeroOk isEmptyLog
-ok-allowed n i s h = go (ltb i n) h
+ok-allowed n i s h = go (ltb i n) (and-right (rowsOk (s .rows) (s .log) (s .head .commit)) _ h)
   where
     go : (b : Bool) → cond b (countedOk s && mailOk n i (s .mail)) (zeroOk s && mailOk 0 i (s .mail)) ≡ true → allowsServer newest s ≡ true
     go true h = server-allowed s n i (leb-true (s .log .len) logLimit (and-left _ _ (and-left _ _ (and-left _ _ h)))) (and-right (countedOk s) _ h)

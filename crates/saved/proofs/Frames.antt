@@ -17,6 +17,7 @@ use Rattle.hex.specs.Lines.{chars, bytesOf}
 use Rattle.hex.proofs.Trips.{Bytes}
 use Rattle.log.specs.Entries.{zeroEntry, appliedTime}
 use Rattle.log.specs.Logs.{logLimit, kept, live, lengthOf}
+use Rattle.log.specs.Rows.{rowsOk}
 use Rattle.log.specs.Order.{logOk}
 use Rattle.mail.specs.declared.Note.{Note}
 use Rattle.mail.specs.Reports.{zeroReport, zeroNote}
@@ -160,7 +161,10 @@ module _ (c : Cluster) (h : wellFormed c ≡ true) where
   unfolding serverOk
   small i l =
       let m : i < mostServers = omega (arith, at-most-seven) in
-      let ok = rw (lt-ltb i (c .count) l) at (every-at _ mostServers i (and-right (leb (c .count) mostServers) _ placed-right) m) in
+      let s = serverAt c i in
+      let ok =
+      rw (lt-ltb i (c .count) l) at
+      (and-right (rowsOk (s .rows) (s .log) (s .head .commit)) _ (every-at _ mostServers i (and-right (leb (c .count) mostServers) _ placed-right) m)) in
       counted-small (c .count) i at-most-seven (and-left _ _ ok) (and-right (countedOk (serverAt c i)) _ ok)
 
 -- servers that fit and are small

@@ -8,8 +8,9 @@ use Rattle.clock.specs.declared.Ticked.the-variants.{To, AtLimit}
 use Rattle.clock.specs.Times.{zeroTime, tickOf}
 use Rattle.log.specs.declared.Entry.{Entry}
 use Rattle.log.specs.Logs.{lengthOf, hasRoom, appended}
+use Rattle.log.specs.Rows.{latestAfter}
 use Rattle.cluster.specs.declared.Server.{Server}
-use Rattle.cluster.specs.Servers.{withTime, withHead, withLog}
+use Rattle.cluster.specs.Servers.{withTime, withHead, withLog, withWhole}
 use Rattle.steps.specs.declared.Sends.the-variants.{Nothing}
 use Rattle.steps.specs.declared.Stepped.{Stepped}
 use Rattle.steps.specs.declared.Answer.the-variants as A
@@ -38,8 +39,11 @@ appendRules s from =
 abbrev pub newEntry : Server → ℕ → ℕ → Time → Entry
 newEntry s key value t = record { term = s .head .term; key = key; value = value; time = t }
 
+-- its value goes into the row of the whole log
 unfoldable pub stampedOf : Server → ℕ → ℕ → Time → Server
-stampedOf s key value t = withLog (withHead s (withTime (s .head) t)) (appended (s .log) (newEntry s key value t))
+stampedOf s key value t =
+    withWhole (withLog (withHead s (withTime (s .head) t)) (appended (s .log) (newEntry s key value t)))
+    (latestAfter (s .rows .whole) (newEntry s key value t))
 
 -- the answer is the entry's position, term and time
 abbrev pub stampDone : Server → ℕ → ℕ → Time → Stepped

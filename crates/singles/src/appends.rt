@@ -6,6 +6,7 @@ use clock::Time;
 use cluster::Head;
 use cluster::Server;
 use log::Entry;
+use log::rows::Rows;
 use steps::Answer;
 use steps::Refusal;
 use steps::Sends;
@@ -24,10 +25,17 @@ pub fn stamped(s: Server, key: u8, value: u16, time: Time) -> Stepped
         time: time,
     };
     let more = log::append(g, e);
+    let rows = s.rows;
+    let before = rows.whole;
+    let whole = log::rows::latest_after(before, e);
     Stepped {
         server: Server {
             head: Head { time: time, ..h },
             log: more,
+            rows: Rows {
+                whole: whole,
+                ..rows
+            },
             ..s
         },
         answer: Answer::Entry(log::length_of(more), h.term, time),

@@ -3,6 +3,7 @@ ghost use mathlib.Core.Path.{_≡_};
 ghost use Rattle.singles.specs.Restarts.{restartsOf};
 use cluster::Head;
 use cluster::Server;
+use log::rows::Rows;
 use steps::Answer;
 use steps::Sends;
 use steps::Stepped;
@@ -12,6 +13,7 @@ pub fn restarts(s: Server) -> Stepped
 {
     let h = s.head;
     let g = s.log;
+    let rows = s.rows;
     let time = log::applied_time(g);
     Stepped {
         server: Server {
@@ -22,6 +24,10 @@ pub fn restarts(s: Server) -> Stepped
                 ..h
             },
             mail: mail::ZERO_MAIL,
+            rows: Rows {
+                committed: log::rows::ZERO_ROW,
+                ..rows
+            },
             ..s
         },
         answer: Answer::Done,

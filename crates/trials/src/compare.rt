@@ -1,4 +1,5 @@
 // What a step changed, looked for in every slot.
+use crate::latest;
 use crate::numbers;
 use crate::say;
 use crate::told;
@@ -25,6 +26,9 @@ fn unchanged(s: Server, t: Server) -> bool {
     if !same_slots(g, h) {
         return false;
     }
+    if !latest::same(s.rows, t.rows) {
+        return false;
+    }
     told::same(s.mail, t.mail)
 }
 
@@ -36,6 +40,7 @@ fn same_server(i: usize, s: Server, t: Server, so_far: bool) -> bool {
     let g = t.log;
     say::row(b"server", say::numbers_of(i, t));
     say::entries(i, g);
+    latest::show(i, t.rows);
     told::show(i, t.mail);
     false
 }

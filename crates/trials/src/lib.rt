@@ -1,6 +1,7 @@
 // A whole program: reads records and the steps tried on them as a text from standard input, and writes what each step answers and what it
 // changes. A program crate of one line calls `run`.
 mod compare;
+mod latest;
 mod numbers;
 mod record;
 mod say;

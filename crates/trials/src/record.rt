@@ -1,4 +1,6 @@
 // The record under construction, and the lines that change it.
+use crate::latest;
+use crate::latest::LATEST;
 use crate::numbers;
 use crate::numbers::PLACES;
 use crate::numbers::byte;
@@ -14,7 +16,7 @@ use cluster::Head;
 use cluster::Server;
 use log::Entry;
 
-// How many numbers there are in a line `fresh`, `server` and `entry`; `told` has the other lines.
+// How many numbers there are in a line `fresh`, `server` and `entry`; `latest` and `told` have the other lines.
 const FRESH: usize = 1;
 
 pub(crate) const SERVER: usize = 8;
@@ -27,6 +29,7 @@ fn wanted(first: u8) -> usize {
         b'f' => FRESH,
         b's' => SERVER,
         b'e' => ENTRY,
+        b'l' => LATEST,
         b'm' => MAIL,
         b'n' => NOTE,
         b'r' => REPORT,
@@ -98,10 +101,23 @@ fn with_entry(s: Server, line: &[u8], n: [usize; PLACES]) -> Server {
 fn with_line(s: Server, line: &[u8], n: [usize; PLACES]) -> Server {
     match n[0] {
         SERVER => with_numbers(s, n),
+        LATEST => latest::with_latest(s, line, n),
         MAIL => told::with_mail(s, n),
         NOTE => told::with_note(s, line, n),
         REPORT => told::with_report(s, line, n),
         _ => with_entry(s, line, n),
+    }
+}
+
+// The server with rows as its log and commit point have them, so that a line `latest` alone breaks them; past the count they stay.
+fn with_rows(counted: bool, s: Server, n: [usize; PLACES]) -> Server {
+    if !counted {
+        return s;
+    }
+    match n[0] {
+        SERVER => cluster::rowed(s),
+        ENTRY => cluster::rowed(s),
+        _ => s,
     }
 }
 
@@ -116,5 +132,6 @@ pub(crate) fn changed(c: Cluster, line: &[u8], n: [usize; PLACES]) -> Cluster {
         return c;
     }
     let s = c.servers[i];
-    cluster::with_server(c, i, with_line(s, line, n))
+    let t = with_line(s, line, n);
+    cluster::with_server(c, i, with_rows(i < c.count, t, n))
 }

@@ -21,6 +21,12 @@ enum-known-change-3 c = search needs
 clocked-requires : tie.Need-clocked-requires
 clocked-requires c κs = search needs
 
+enum-told : tie.Need-enum-told
+enum-told c = search needs
+
+rowed-requires : tie.Need-rowed-requires
+rowed-requires c κs = search needs
+
 returns : tie.Need-returns
 returns c = rw (c .before .before .change .given .1) (c .started .ensures)
 
@@ -29,6 +35,9 @@ returns-2 c = rw (c .before .before .change2 .given .1) (c .voted .ensures)
 
 returns-3 : tie.Need-returns-3
 returns-3 c = rw (c .before .before .change3 .given .1) (c .clocked .ensures)
+
+returns-4 : tie.Need-returns-4
+returns-4 c = rw (c .before .enum-told .given .1) (c .rowed .ensures)
 
 pub change-one-spec : {M : Type 1} → statement M
 change-one-spec =
@@ -40,6 +49,9 @@ change-one-spec =
     voted-requires
     enum-known-change-3
     clocked-requires
+    enum-told
+    rowed-requires
     returns
     returns-2
-    returns-3)
+    returns-3
+    returns-4)

@@ -6,51 +6,68 @@ use borrow.Author.Needs.{needs}
 use Rattle.cluster.proofs.server_ok.Statement.{statement}
 use Rattle.cluster.proofs.server_ok.Tie as tie
 
-counted-ok-requires : tie.Need-counted-ok-requires
-counted-ok-requires c κs = search needs
+rows-ok-requires : tie.Need-rows-ok-requires
+rows-ok-requires c κs = search needs
 
 returns : tie.Need-returns
 unfolding serverOk
-returns c =
-    let a = c .before .before .before .before .args in
-    simp (lt-ltb (a .i) (a .n) (c .before .before .if1 .taken), said-no _ _ (c .before .counted-ok .ensures) (c .if2 .taken))
+returns c = simp (said-no _ _ (c .before .rows-ok .ensures) (c .if1 .taken))
 
-mail-ok-requires : tie.Need-mail-ok-requires
-mail-ok-requires c κs = search needs
+counted-ok-requires : tie.Need-counted-ok-requires
+counted-ok-requires c κs = search needs
 
 returns-2 : tie.Need-returns-2
 unfolding serverOk
 returns-2 c =
-    let a = c .before .before .before .before .before .args in
-    simp (lt-ltb (a .i) (a .n) (c .before .before .before .if1 .taken), said-yes _ _ (c .before .before .counted-ok .ensures) (c .before .if2 .left), c .mail-ok .ensures)
+    let b = c .before .before in
+    let r = b .before .before in
+    let a = r .before .before .before .before .args in
+    simp (said-yes _ _ (r .before .rows-ok .ensures) (r .if1 .left), lt-ltb (a .i) (a .n) (b .if2 .taken), said-no _ _ (c .before .counted-ok .ensures) (c .if3 .taken))
 
-zero-ok-requires : tie.Need-zero-ok-requires
-zero-ok-requires c κs = search needs
+mail-ok-requires : tie.Need-mail-ok-requires
+mail-ok-requires c κs = search needs
 
 returns-3 : tie.Need-returns-3
 unfolding serverOk
 returns-3 c =
-    let a = c .before .before .before .before .args in
-    simp (le-ltb (a .i) (a .n) (c .before .before .if1 .left), said-no _ _ (c .before .zero-ok .ensures) (c .if3 .taken))
+    let b = c .before .before .before in
+    let r = b .before .before in
+    let a = r .before .before .before .before .args in
+    simp (said-yes _ _ (r .before .rows-ok .ensures) (r .if1 .left), lt-ltb (a .i) (a .n) (b .if2 .taken), said-yes _ _ (c .before .before .counted-ok .ensures) (c .before .if3 .left), c .mail-ok .ensures)
 
-mail-ok-requires-2 : tie.Need-mail-ok-requires-2
-mail-ok-requires-2 c κs = search needs
+zero-ok-requires : tie.Need-zero-ok-requires
+zero-ok-requires c κs = search needs
 
 returns-4 : tie.Need-returns-4
 unfolding serverOk
 returns-4 c =
-    let a = c .before .before .before .before .before .args in
-    simp (le-ltb (a .i) (a .n) (c .before .before .before .if1 .left), said-yes _ _ (c .before .before .zero-ok .ensures) (c .before .if3 .left), c .mail-ok2 .ensures)
+    let b = c .before .before in
+    let r = b .before .before in
+    let a = r .before .before .before .before .args in
+    simp (said-yes _ _ (r .before .rows-ok .ensures) (r .if1 .left), le-ltb (a .i) (a .n) (b .if2 .left), said-no _ _ (c .before .zero-ok .ensures) (c .if4 .taken))
+
+mail-ok-requires-2 : tie.Need-mail-ok-requires-2
+mail-ok-requires-2 c κs = search needs
+
+returns-5 : tie.Need-returns-5
+unfolding serverOk
+returns-5 c =
+    let b = c .before .before .before in
+    let r = b .before .before in
+    let a = r .before .before .before .before .args in
+    simp (said-yes _ _ (r .before .rows-ok .ensures) (r .if1 .left), le-ltb (a .i) (a .n) (b .if2 .left), said-yes _ _ (c .before .before .zero-ok .ensures) (c .before .if4 .left), c .mail-ok2 .ensures)
 
 pub server-ok-spec : {M : Type 1} → statement M
 server-ok-spec =
     tie.close
     (tie.spec
-    counted-ok-requires
+    rows-ok-requires
     returns
-    mail-ok-requires
+    counted-ok-requires
     returns-2
-    zero-ok-requires
+    mail-ok-requires
     returns-3
+    zero-ok-requires
+    returns-4
     mail-ok-requires-2
-    returns-4)
+    returns-5)

@@ -61,17 +61,17 @@ received-requires c κs = search needs
 
 returns : tie.Need-returns
 returns c =
-    let b = c .before .before in
+    let b = c .before .before .before in
     as-entry _ _ _ _ (b .before .before .match .keys1) (b .append .ensures) (b .before .entry-in .ensures)
 
 returns-2 : tie.Need-returns-2
 returns-2 c =
-    let b = c .before .before in
+    let b = c .before .before .before in
     as-note _ _ _ _ (b .before .before .match .keys2) (b .noted .ensures) (b .before .report-in .ensures)
 
 returns-3 : tie.Need-returns-3
 returns-3 c =
-    let b = c .before .before in
+    let b = c .before .before .before in
     as-report _ _ _ _ (b .before .before .match .keys3) (b .received .ensures) (b .before .report-in2 .ensures)
 
 returns-4 : tie.Need-returns-4

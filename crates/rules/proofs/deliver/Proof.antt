@@ -46,7 +46,7 @@ with-server-requires c κs = search needs
 returns-3 : tie.Need-returns-3
 unfolding delivered
 returns-3 c =
-    let b = c .before .before .before in
+    let b = c .before .before .before .before in
     let g = b .before .before .before .before .before .sends .given in
     let x = b .before .before .before .before .before .before .before .args .t1 in
     c .with-server .ensures ∙ ap (λ (m : Mail). withServer x (g .0 .0) (withMail (serverAt x (g .0 .0)) m)) (b .received .ensures) ∙ sym (ap (delivered x) (g .1))

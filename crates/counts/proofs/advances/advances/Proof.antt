@@ -5,7 +5,8 @@ use Rattle.steps.proofs.Decided.{decided-clear, decided-broken}
 use Rattle.steps.specs.Answers.{refusingAll}
 use Rattle.steps.specs.declared.Answer.the-variants.{Reached}
 use Rattle.steps.specs.declared.Outcome.{Outcome}
-use Rattle.cluster.specs.Servers.{serverAt, serverCount, withServer}
+use Rattle.log.specs.declared.rows.Latest.{Latest}
+use Rattle.cluster.specs.Servers.{serverAt, serverCount, withCommit, withHead, withCommitted, withServer}
 use Prim.Native.Nat.{ℕ}
 use borrow.Author.Tests.{lt-ltb, le-ltb, le-leb, lt-leb, not-true, not-false}
 use native.Mathlib.Omega.{arith}
@@ -66,16 +67,25 @@ returns-3 c =
     c .refuse-all3 .ensures ∙ sym (decided-broken (refusingAll (b .t1)) (advanceDone (b .t1) (b .a)) {rs = advanceRules (b .t1) (b .a)}
     (later (in-range (c .before .before .before .before .before .before)) (later (primary (c .before .before .before)) (here no))))
 
+committed-to-requires : tie.Need-committed-to-requires
+committed-to-requires c κs = search needs
+
 with-server-requires : tie.Need-with-server-requires
 with-server-requires c κs = search needs
 
 returns-4 : tie.Need-returns-4
 returns-4 c =
-    let b = c .before .before .before .before .before .before .before .before .before .before .before .before .args in
-    let e = c .before .before .before .before .before .before .highest-passing .ensures in
-    let w = c .with-server .ensures ∙ ap (λ (n : ℕ). withServer (b .t1) (b .a) (committedOf (serverAt (b .t1) (b .a)) n)) e in
-    let o : _≡_ {A = Outcome} (record { cluster = c .with-server .result; answer = Reached (c .before .before .before .before .before .before .highest-passing .result) }) (advanceDone (b .t1) (b .a)) = λ i. record { cluster = w i; answer = Reached (e i) } in
-    o ∙ sym (decided-clear (refusingAll (b .t1)) (advanceDone (b .t1) (b .a)) (advanceRules (b .t1) (b .a)) (in-range (c .before .before .before .before .before .before .before .before .before .before), (primary (c .before .before .before .before .before .before .before), (found (c .before .before .before .before .before), tt))))
+    let r = c .before .before .before .before in
+    let p = r .before .before .before .before .before in
+    let b = p .before .before .before .before .before .before .before .args in
+    let s = serverAt (b .t1) (b .a) in
+    let n = p .before .highest-passing .result in
+    let e = p .before .highest-passing .ensures in
+    let w =
+    c .with-server .ensures ∙ ap (λ (v : Latest). withServer (b .t1) (b .a) (withCommitted (withHead s (withCommit (s .head) n)) v)) (r .committed-to .ensures)
+    ∙ ap (λ (n : ℕ). withServer (b .t1) (b .a) (committedOf s n)) e in
+    let o : _≡_ {A = Outcome} (record { cluster = c .with-server .result; answer = Reached n }) (advanceDone (b .t1) (b .a)) = λ i. record { cluster = w i; answer = Reached (e i) } in
+    o ∙ sym (decided-clear (refusingAll (b .t1)) (advanceDone (b .t1) (b .a)) (advanceRules (b .t1) (b .a)) (in-range (p .before .before .before .before .before), (primary (p .before .before), (found p, tt))))
 
 pub advances-spec : {M : Type 1} → statement M
 advances-spec =
@@ -91,5 +101,6 @@ advances-spec =
     highest-passing-requires
     refuse-all-requires-3
     returns-3
+    committed-to-requires
     with-server-requires
     returns-4)

@@ -25,11 +25,15 @@ stays-primary-requires c κs = search needs
 takes-commit-requires : tie.Need-takes-commit-requires
 takes-commit-requires c κs = search needs
 
+committed-to-requires : tie.Need-committed-to-requires
+committed-to-requires c κs = search needs
+
 returns : tie.Need-returns
 unfolding heardOf
 returns c =
-    let b = c .before .before in
-    rw (commit-is b, b .before .before .stays-primary .ensures, b .before .before .before .greater-term .ensures, b .before .before .before .before .later .ensures)
+    let r = c .before .before .before in
+    let b = r .before .before .before in
+    rw (r .committed-to .ensures, commit-is b, b .before .before .stays-primary .ensures, b .before .before .before .greater-term .ensures, b .before .before .before .before .later .ensures)
 
 pub hears-spec : {M : Type 1} → statement M
 hears-spec =
@@ -39,4 +43,5 @@ hears-spec =
     greater-term-requires
     stays-primary-requires
     takes-commit-requires
+    committed-to-requires
     returns)

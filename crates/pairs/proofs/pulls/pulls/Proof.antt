@@ -58,6 +58,12 @@ returns-3 c = rw (secondary (c .before .before .before .before .before .before),
 join-requires : tie.Need-join-requires
 join-requires c κs = search needs
 
+length-of-requires-3 : tie.Need-length-of-requires-3
+length-of-requires-3 c κs = search needs
+
+latest-over-requires : tie.Need-latest-over-requires
+latest-over-requires c κs = search needs
+
 took-requires : tie.Need-took-requires
 took-requires c κs = search needs
 
@@ -66,7 +72,9 @@ sent-requires c κs = search needs
 
 returns-4 : tie.Need-returns-4
 returns-4 c =
-    rw (secondary (c .before .before .before .before .before .before .before .before), shorter (c .before .before .before .before .before), said-yes _ _ (length-is (c .before .before .before .before)) (c .before .before .before .if3 .left), c .sent .ensures, c .before .took .ensures, log-is (c .before .before))
+    let r = c .before .before in
+    let b = r .before .before .before .before in
+    rw (secondary (b .before .before .before .before .before .before), shorter (b .before .before .before), said-yes _ _ (length-is (b .before .before)) (b .before .if3 .left), c .sent .ensures, c .before .took .ensures, r .latest-over .ensures, r .before .length-of3 .ensures, log-is b, b .before .before .before .before .before .length-of .ensures)
 
 pub pulls-spec : {M : Type 1} → statement M
 pulls-spec =
@@ -82,6 +90,8 @@ pulls-spec =
     refuse-requires-3
     returns-3
     join-requires
+    length-of-requires-3
+    latest-over-requires
     took-requires
     sent-requires
     returns-4)

@@ -13,9 +13,14 @@ greater-term-requires c κs = search needs
 greater-requires : tie.Need-greater-requires
 greater-requires c κs = search needs
 
+committed-to-requires : tie.Need-committed-to-requires
+committed-to-requires c κs = search needs
+
 returns : tie.Need-returns
 unfolding tookOf
-returns c = rw (c .before .greater .ensures, c .before .before .greater-term .ensures, c .before .before .before .later .ensures)
+returns c =
+    let b = c .before in
+    rw (b .committed-to .ensures, b .before .greater .ensures, b .before .before .greater-term .ensures, b .before .before .before .later .ensures)
 
 pub took-spec : {M : Type 1} → statement M
-took-spec = tie.close (tie.spec later-requires greater-term-requires greater-requires returns)
+took-spec = tie.close (tie.spec later-requires greater-term-requires greater-requires committed-to-requires returns)

@@ -20,7 +20,7 @@ with-source-requires c κs = search needs
 
 returns : tie.Need-returns
 returns c =
-    let b = c .before .before in
+    let b = c .before .before .before in
     rw (b .with-source .ensures, b .before .number .ensures, b .before .before .last-term .ensures, b .before .before .before .length-of .ensures)
 
 pub sent-spec : {M : Type 1} → statement M

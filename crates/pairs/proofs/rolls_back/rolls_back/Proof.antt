@@ -1,10 +1,13 @@
 -- `pairs::rolls_back::rolls_back` meets its contract. Assumes nothing.
 use Rattle.pairs.specs.RollsBack.{common}
 use Rattle.log.specs.Logs.{live, lengthOf, joined}
+use Rattle.log.specs.Rows.{zeroRow, latestOver, between}
 use Rattle.log.specs.Entries.{lastTerm, isBeginning}
 use borrow.Author.Tests.{lt-ltb, le-ltb, le-leb, lt-leb}
 use native.Mathlib.Omega.{arith}
 use lib.Dec.{ltb, leb}
+use lib.Seq.{take-length}
+use Prim.Native.Nat.{ℕ}
 use mathlib.Core.Bool.{true, false, not}
 use mathlib.Core.Path.{_≡_, ap, sym, _∙_}
 use borrow.Author.Needs.{needs}
@@ -88,6 +91,12 @@ returns-5 c =
 join-requires : tie.Need-join-requires
 join-requires c κs = search needs
 
+length-of-requires-2 : tie.Need-length-of-requires-2
+length-of-requires-2 c κs = search needs
+
+latest-over-requires : tie.Need-latest-over-requires
+latest-over-requires c κs = search needs
+
 took-requires : tie.Need-took-requires
 took-requires c κs = search needs
 
@@ -96,7 +105,12 @@ sent-requires c κs = search needs
 
 returns-6 : tie.Need-returns-6
 returns-6 c =
-    rw (secondary (c .before .before .before .before .before .before .before .before .before .before .before .before .before), filled (c .before .before .before .before .before .before .before .before .before .before .before), below (c .before .before .before .before .before .before .before .before), parted (c .before .before .before .before .before .before), covered (c .before .before .before), c .sent .ensures, c .before .took .ensures, log-is (c .before .before))
+    let r = c .before .before in
+    let b = r .before .before in
+    let whole =
+    r .latest-over .ensures ∙ ap (λ (n : ℕ). latestOver zeroRow (between (b .join .result) 0 n)) (r .before .length-of2 .ensures)
+    ∙ ap (latestOver zeroRow) (take-length (live (b .join .result))) in
+    rw (secondary (b .before .before .before .before .before .before .before .before .before .before .before), filled (b .before .before .before .before .before .before .before .before .before), below (b .before .before .before .before .before .before), parted (b .before .before .before .before), covered (b .before), c .sent .ensures, c .before .took .ensures, whole, log-is b)
 
 pub rolls-back-spec : {M : Type 1} → statement M
 rolls-back-spec =
@@ -118,6 +132,8 @@ rolls-back-spec =
     refuse-requires-5
     returns-5
     join-requires
+    length-of-requires-2
+    latest-over-requires
     took-requires
     sent-requires
     returns-6)

@@ -5,9 +5,6 @@ use Rattle.log.specs.Entries.{appliedTime}
 use Rattle.clock.specs.Times.{isBefore}
 use Rattle.clock.specs.declared.Time.{Time}
 use borrow.Author.Tests.{le-leb, lt-leb}
-use native.Mathlib.Omega.{arith}
-use lib.Seq.{take-all}
-use lib.ListN.{take}
 use mathlib.Core.Bool.{not}
 use mathlib.Core.Path.{_≡_, ap, sym, _∙_}
 use borrow.Author.Needs.{needs}
@@ -36,18 +33,14 @@ refuse-requires-2 c κs = search needs
 returns-2 : tie.Need-returns-2
 returns-2 c = rw (le-leb (c .before .before .before .before .before .before .args .key) highestKey (c .before .before .before .before .before .if1 .left), ap not (sym (tested (c .before .before)) ∙ c .before .if2 .taken)) (c .refuse2 .ensures)
 
-length-of-requires : tie.Need-length-of-requires
-length-of-requires c κs = search needs
-
-latest-value-requires : tie.Need-latest-value-requires
-latest-value-requires c κs = search needs
+value-for-requires : tie.Need-value-for-requires
+value-for-requires c κs = search needs
 
 returns-3 : tie.Need-returns-3
 returns-3 c =
-    let g = c .before .before .before .before .before .before .before .args .s .log in
-    let n = c .before .length-of .result in
-    let all : take n (live g) ≡ live g = take-all n (live g) (omega (arith, c .before .length-of .ensures)) in
-    rw (le-leb (c .before .before .before .before .before .before .before .args .key) highestKey (c .before .before .before .before .before .before .if1 .left), ap not (sym (tested (c .before .before .before)) ∙ c .before .before .if2 .left), c .latest-value .ensures, c .before .before .before .before .applied-time .ensures, all)
+    let b = c .before .before .before in
+    let t = b .before .before in
+    rw (le-leb (t .before .before .before .args .key) highestKey (t .before .before .if1 .left), ap not (sym (tested (b .before)) ∙ b .if2 .left), c .value-for .ensures, t .applied-time .ensures)
 
 pub local-read-spec : {M : Type 1} → statement M
 local-read-spec =
@@ -59,6 +52,5 @@ local-read-spec =
     is-before-requires
     refuse-requires-2
     returns-2
-    length-of-requires
-    latest-value-requires
+    value-for-requires
     returns-3)

@@ -32,11 +32,14 @@ refuse-requires-2 c κs = search needs
 returns-2 : tie.Need-returns-2
 returns-2 c = rw (le-leb (c .before .before .before .before .before .before .args .key) highestKey (c .before .before .before .before .before .if1 .left), ap not (sym (tested (c .before .before)) ∙ c .before .if2 .taken)) (c .refuse2 .ensures)
 
-latest-value-requires : tie.Need-latest-value-requires
-latest-value-requires c κs = search needs
+value-for-requires : tie.Need-value-for-requires
+value-for-requires c κs = search needs
 
 returns-3 : tie.Need-returns-3
-returns-3 c = rw (le-leb (c .before .before .before .before .before .before .args .key) highestKey (c .before .before .before .before .before .if1 .left), ap not (sym (tested (c .before .before)) ∙ c .before .if2 .left), c .latest-value .ensures, c .before .before .before .time-at .ensures)
+returns-3 c =
+    let b = c .before .before .before in
+    let t = b .before .before in
+    rw (le-leb (t .before .before .before .args .key) highestKey (t .before .before .if1 .left), ap not (sym (tested (b .before)) ∙ b .if2 .left), c .value-for .ensures, t .time-at .ensures)
 
 pub majority-read-spec : {M : Type 1} → statement M
 majority-read-spec =
@@ -48,5 +51,5 @@ majority-read-spec =
     is-before-requires
     refuse-requires-2
     returns-2
-    latest-value-requires
+    value-for-requires
     returns-3)

@@ -7,7 +7,7 @@ applied-time-requires : tie.Need-applied-time-requires
 applied-time-requires c κs = search needs
 
 returns : tie.Need-returns
-returns c = rw (c .before .applied-time .ensures)
+returns c = rw (c .before .before .applied-time .ensures)
 
 pub restarts-spec : {M : Type 1} → statement M
 restarts-spec = tie.close (tie.spec applied-time-requires returns)

@@ -19,8 +19,8 @@ returns c =
 
 returns-2 : tie.Need-returns-2
 returns-2 c =
-    let s = c .before .before .before .before .before .before .args .s in
-    sym (decided-clear (refusing s) (downDone s) (downRules (s .head)) (not-false (s .head .primary) (c .before .before .before .before .if1 .left), tt))
+    let s = c .before .before .before .before .before .before .before .args .s in
+    sym (decided-clear (refusing s) (downDone s) (downRules (s .head)) (not-false (s .head .primary) (c .before .before .before .before .before .if1 .left), tt))
 
 pub steps-down-spec : {M : Type 1} → statement M
 steps-down-spec = tie.close (tie.spec refuse-requires returns returns-2)

@@ -24,7 +24,7 @@ sends-requires c κs = search needs
 
 returns-2 : tie.Need-returns-2
 returns-2 c =
-    let b = c .before .before .before in
+    let b = c .before .before .before .before in
     let s = b .before .before .before .before .before .before .before .args .s in
     rw (le-leb 1 (s .mail .queue .len) (b .before .before .before .if1 .left), c .sends .ensures, b .taken .ensures, b .before .noted .ensures, b .before .before .report-at .ensures)
 

@@ -15,7 +15,8 @@ add-t5 : tie.Need-add-t5
 add-t5 c = search needs
 
 returns-2 : tie.Need-returns-2
-returns-2 c = rw (lt-ltb (c .before .before .before .before .before .before .before .args .s .head .wall) limit (c .before .before .before .before .before .if1 .left))
+returns-2 c =
+    rw (lt-ltb (c .before .before .before .before .before .before .before .before .args .s .head .wall) limit (c .before .before .before .before .before .before .if1 .left))
 
 pub wall-clock-spec : {M : Type 1} → statement M
 wall-clock-spec = tie.close (tie.spec refuse-requires returns add-t5 returns-2)
