@@ -13,7 +13,7 @@ use std::path::{Path, PathBuf};
 use std::process::ExitCode;
 
 /// Where the following starts: a module and what it defines.
-const ROOTS: [(&str, &str); 25] = [
+const ROOTS: [(&str, &str); 27] = [
     ("rules.Rules", "stepOf"),
     ("replay.Texts", "answers"),
     ("replay.Texts", "leaves"),
@@ -23,6 +23,8 @@ const ROOTS: [(&str, &str); 25] = [
     ("answers.Answers", "writeAnswer"),
     ("answers.Ranges", "FitsTelling"),
     ("cluster.Ranges", "Fits"),
+    ("reads.Lists", "wholeList"),
+    ("reads.Lists", "committedList"),
     ("promises.Demand3", "Demand3Promised"),
     ("promises.Newest", "NewestPromised"),
     ("rules.Stamped", "Stamped"),
@@ -50,7 +52,7 @@ const DECLARED: &str = ".declared.";
 /// The page of claims.
 const PAGE: &str = "crates/claims/proofs/Claims.antt";
 /// How many lines they may be.
-const MOST: usize = 1340;
+const MOST: usize = 1390;
 
 /// A definition by its module, as `log.Entries`, and its name.
 type Place = (String, String);

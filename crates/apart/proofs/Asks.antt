@@ -7,7 +7,7 @@ use Prim.Native.Nat.{ℕ}
 use Rattle.clock.specs.Times.{isBefore}
 use Rattle.log.specs.declared.Entry.{Entry}
 use Rattle.log.specs.Entries.{entryAt, hasEntry, latestValue}
-use Rattle.log.specs.Rows.{latestAfter}
+use Rattle.log.specs.Rows.{latestAfter, valueFor}
 use Rattle.log.specs.Logs.{mayAsk}
 use Rattle.cluster.specs.Servers.{freshServer}
 use Rattle.steps.specs.declared.Answer.{Answer}
@@ -17,6 +17,7 @@ use Rattle.reads.specs.Acknowledged.{acknowledgedOf}
 use Rattle.reads.specs.LocalRead.{localReadOf}
 use Rattle.reads.specs.MajorityRead.{majorityReadOf}
 use Rattle.reads.specs.NewestRead.{newestReadOf}
+use Rattle.reads.specs.Lists.{wholeList, committedList}
 use Rattle.apart.proofs.Things.{at, x, z, server, holder, covering}
 
 pub reads-only-committed-entries : localReadOf (holder 1 (x ∷ [])) 5 (at 0 0) .answer ≡ Value 41 (at 1 0)
@@ -95,3 +96,20 @@ not-yet-before-no-such-entry = refl
 pub acknowledged-at-count-0 : acknowledgedOf 2 (holder 1 (x ∷ [])) 0 1 1 .answer ≡ Refused NotYet
 unfolding entryAt hasEntry mayAsk
 acknowledged-at-count-0 = refl
+
+-- ---- all at once
+
+pub the-whole-list-of-the-committed-row : valueFor (wholeList (holder 1 (x ∷ [])) .latest) 5 ≡ 41
+unfolding latestAfter
+the-whole-list-of-the-committed-row = refl
+
+pub the-whole-list-as-of-the-cluster-time : wholeList (server 1 false 0 1 (at 9 0) (x ∷ [])) .time ≡ at 1 0
+unfolding entryAt
+the-whole-list-as-of-the-cluster-time = refl
+
+pub the-committed-list-of-the-whole-row : valueFor (committedList (holder 1 (x ∷ [])) .latest) 5 ≡ 0
+the-committed-list-of-the-whole-row = refl
+
+pub the-committed-list-as-of-the-cluster-time : committedList (server 1 false 1 1 (at 9 0) (x ∷ z ∷ [])) .time ≡ at 1 0
+unfolding entryAt
+the-committed-list-as-of-the-cluster-time = refl

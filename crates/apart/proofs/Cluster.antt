@@ -9,14 +9,14 @@ use Rattle.base.specs.Lists.{eachFrom}
 use Rattle.clock.specs.Times.{zeroTime, isBefore, sameTime}
 use Rattle.log.specs.Entries.{sameEntry, entryAt, latestValue}
 use Rattle.log.specs.Order.{entryOk, follows, placeOk, inOrder, restZero, isEmptyLog, logOk}
-use Rattle.log.specs.Rows.{rowOk, rowsOk}
+use Rattle.log.specs.Rows.{rowOk, rowsOk, zeroRows, valueFor, latestAfter}
 use Rattle.mail.specs.Reports.{zeroNote, noteOf}
 use Rattle.mail.specs.Mails.{zeroMail, noteAt, withSource}
 use Rattle.mail.specs.Order.{isUnused, isUsed, noteOk, notesOk, slotOk, queueOk, sourceOk, mailOk}
-use Rattle.cluster.specs.Servers.{mostServers, withMail, zeroServer, freshServer, zeroCluster, startedOf, freshCluster, serverAt, withServer, votedOf, electedAll, clockedOf, clocksSet}
+use Rattle.cluster.specs.Servers.{mostServers, withMail, zeroServer, freshServer, zeroCluster, startedOf, freshCluster, serverAt, withServer, votedOf, electedAll, clockedOf, clocksSet, withRows, committedTo, rowedOf, rowedAll}
 use Rattle.cluster.specs.Sets.{member, membersOf, isWithin, isMajority}
 use Rattle.cluster.specs.WellFormed.{numbersOk, countedOk, zeroOk, serverOk, wellFormed}
-use Rattle.apart.proofs.Things.{at, x, f, noting, server, holder, leader, covering, clocked, timed, two, F2}
+use Rattle.apart.proofs.Things.{at, x, f, noting, server, holder, leader, covering, clocked, timed, two, F2, z, log}
 
 pub fresh-server-with-wall-clock-0 : freshServer .head .wall ≡ 1
 fresh-server-with-wall-clock-0 = refl
@@ -155,3 +155,32 @@ half-is-a-majority = refl
 pub majority-wants-everybody : isMajority 3 3 ≡ true
 unfolding count member
 majority-wants-everybody = refl
+
+-- ---- rows
+
+pub the-committed-row-from-the-whole : valueFor (committedTo (holder 1 (x ∷ [])) (log (x ∷ [])) 0) 5 ≡ 0
+the-committed-row-from-the-whole = refl
+
+pub the-committed-row-goes-down : valueFor (committedTo (holder 1 (x ∷ [])) (log (x ∷ [])) 1) 5 ≡ 41
+unfolding latestAfter
+the-committed-row-goes-down = refl
+
+pub rowed-as-of-nothing-committed : valueFor (rowedOf (withRows (covering (x ∷ [])) zeroRows) .rows .committed) 5 ≡ 41
+unfolding latestAfter rowedOf
+rowed-as-of-nothing-committed = refl
+
+pub rowed-as-of-the-term : valueFor (rowedOf (server 2 false 1 1 (at 2 0) (x ∷ z ∷ [])) .rows .committed) 5 ≡ 41
+unfolding latestAfter rowedOf
+rowed-as-of-the-term = refl
+
+pub rowed-leaves-the-rows : valueFor (serverAt (rowedAll (two (withRows (covering (x ∷ [])) zeroRows) freshServer)) 0 .rows .committed) 5 ≡ 41
+unfolding eachFrom latestAfter rowedOf
+rowed-leaves-the-rows = refl
+
+pub rowed-sets-the-clocks : serverAt (rowedAll F2) 2 .head .wall ≡ 0
+unfolding eachFrom startedOf rowedOf
+rowed-sets-the-clocks = refl
+
+pub well-formed-without-its-rows : serverOk 2 0 freshServer ≡ true
+unfolding every highest isBefore sameTime sameEntry entryAt latestValue inOrder restZero logOk rowOk rowsOk isUnused isUsed noteOk notesOk slotOk queueOk sourceOk mailOk numbersOk countedOk serverOk
+well-formed-without-its-rows = refl

@@ -5,11 +5,12 @@ use mathlib.Core.List.{List, [], _∷_}
 use Rattle.base.specs.Numbers.{count, highest}
 use Rattle.base.specs.Lists.{eachFrom}
 use Rattle.log.specs.Entries.{entryAt}
+use Rattle.log.specs.Rows.{valueFor, latestAfter}
 use Rattle.log.specs.declared.Entry.{Entry as EntryOf}
 use Rattle.mail.specs.declared.Note.{Note}
 use Rattle.mail.specs.Reports.{zeroNote}
 use Rattle.cluster.specs.declared.Server.{Server}
-use Rattle.cluster.specs.Servers.{withMail, freshServer, startedOf}
+use Rattle.cluster.specs.Servers.{withMail, freshServer, startedOf, serverAt}
 use Rattle.steps.specs.declared.Answer.the-variants.{Reached, Refused}
 use Rattle.steps.specs.declared.Refusal.the-variants.{WrongRole}
 use Rattle.counts.specs.Advances.{backs, passes, highestPassing, advancesOf}
@@ -51,3 +52,8 @@ advances-one-further = refl
 pub secondary-advances : advancesOf F2 0 .answer ≡ Refused WrongRole
 unfolding eachFrom startedOf
 secondary-advances = refl
+
+pub advances-without-its-row :
+    valueFor (serverAt (advancesOf (two (noted (zeroNote ∷ note 2 2 2 ∷ []) (u ∷ entry 2 5 43 (at 3 0) ∷ [])) freshServer) 0 .cluster) 0 .rows .committed) 5 ≡ 43
+unfolding count highest entryAt latestAfter backs passes highestPassing
+advances-without-its-row = refl

@@ -11,7 +11,9 @@ use Rattle.log.specs.declared.Log.{Log}
 use Rattle.log.specs.Entries.{zeroEntry, sameEntry, entryAt, lastTerm, appliedTime, equalAt, hasEntry, commonBeginning, isBeginning, latestValue}
 use Rattle.log.specs.Logs.{logLimit, highestPosition, mayAsk, emptyLog, live, lengthOf, hasRoom, appended, joined}
 use Rattle.log.specs.Order.{entryOk, follows, placeOk, inOrder, restZero, isEmptyLog, logOk}
-use Rattle.apart.proofs.Things.{at, entry, x, y, z, u, log}
+use Rattle.log.specs.declared.rows.Latest.{Latest}
+use Rattle.log.specs.Rows.{zeroRow, valueFor, latestAfter, latestOver, between, rowsOf, rowOk, rowsOk}
+use Rattle.apart.proofs.Things.{at, entry, x, y, z, u, log, w}
 
 pub zero-entry-of-value-1 : zeroEntry .value ≡ 0
 zero-entry-of-value-1 = refl
@@ -206,3 +208,47 @@ log-ok-but-for-the-length = refl
 pub log-ok-without-the-slots : logOk 0 dirty ≡ false
 unfolding sameTime sameEntry restZero logOk
 log-ok-without-the-slots = refl
+
+-- ---- rows
+
+-- the row after x alone
+abbrev of-x : Latest
+of-x = latestAfter zeroRow x
+
+pub no-such-key-has-1 : valueFor zeroRow 16 ≡ 0
+no-such-key-has-1 = refl
+
+pub the-value-of-the-next-key : valueFor of-x 5 ≡ 41
+unfolding latestAfter
+the-value-of-the-next-key = refl
+
+pub an-entry-that-writes-nothing-empties-the-row : valueFor (latestAfter of-x (entry 1 255 0 (at 2 0))) 5 ≡ 41
+unfolding latestAfter
+an-entry-that-writes-nothing-empties-the-row = refl
+
+pub the-term-for-the-value : valueFor of-x 5 ≡ 41
+unfolding latestAfter
+the-term-for-the-value = refl
+
+pub over-all-from-the-first : valueFor (latestOver zeroRow (between (log (x ∷ w ∷ [])) 1 2)) 5 ≡ 0
+unfolding latestAfter
+over-all-from-the-first = refl
+
+pub over-none : valueFor (latestOver zeroRow (between (log (x ∷ [])) 0 1)) 5 ≡ 41
+unfolding latestAfter
+over-none = refl
+
+pub the-row-of-what-is-not-committed : valueFor (rowsOf (log (x ∷ [])) 1 .whole) 5 ≡ 41
+unfolding latestAfter
+the-row-of-what-is-not-committed = refl
+
+pub the-committed-row-of-all : valueFor (rowsOf (log (x ∷ [])) 0 .committed) 5 ≡ 0
+the-committed-row-of-all = refl
+
+pub well-formed-at-fifteen-keys : rowsOk (record { whole = record { values = 1 ∷ replicate 15 0 }; committed = zeroRow }) emptyLog 0 ≡ false
+unfolding every highest entryAt latestValue rowOk rowsOk
+well-formed-at-fifteen-keys = refl
+
+pub well-formed-by-the-whole-row-alone : rowsOk (record { whole = of-x; committed = zeroRow }) (log (x ∷ [])) 1 ≡ false
+unfolding every highest entryAt latestValue latestAfter rowOk rowsOk
+well-formed-by-the-whole-row-alone = refl

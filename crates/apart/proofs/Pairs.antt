@@ -6,7 +6,7 @@ use Prim.Native.Nat.{max}
 use lib.ListN.{replicate}
 use Rattle.clock.specs.Times.{zeroTime, isBefore, sameTime, laterOf}
 use Rattle.log.specs.Entries.{sameEntry, entryAt, equalAt, commonBeginning}
-use Rattle.log.specs.Rows.{zeroRow}
+use Rattle.log.specs.Rows.{zeroRow, valueFor, latestAfter}
 use Rattle.log.specs.Logs.{emptyLog}
 use Rattle.cluster.specs.Servers.{withMail, freshServer}
 use Rattle.steps.specs.declared.Sends.the-variants.{To}
@@ -91,3 +91,21 @@ rolls-back-below-the-commit-point = refl
 pub rolls-back-by-server-terms : rollsBackOf (holder 2 (x ∷ [])) (holder 2 (u ∷ [])) 0 1 .answer ≡ Reached 1
 unfolding sameEntry entryAt commonBeginning tookOf
 rolls-back-by-server-terms = refl
+
+-- ---- rows
+
+pub a-rollback-leaves-its-row : valueFor (rollsBackOf (holder 1 (x ∷ w ∷ [])) (holder 2 (x ∷ u ∷ [])) 0 1 .server .rows .whole) 6 ≡ 0
+unfolding sameTime sameEntry entryAt commonBeginning latestAfter tookOf
+a-rollback-leaves-its-row = refl
+
+pub a-pull-leaves-its-row : valueFor (pullsOf freshServer (holder 1 (x ∷ [])) 0 1 .server .rows .whole) 5 ≡ 41
+unfolding latestAfter tookOf
+a-pull-leaves-its-row = refl
+
+pub hears-without-its-row : valueFor (hearsOf (holder 1 (x ∷ [])) (covering (x ∷ [])) .server .rows .committed) 5 ≡ 41
+unfolding sameTime sameEntry entryAt equalAt latestAfter takesCommit heardOf
+hears-without-its-row = refl
+
+pub took-without-its-row : valueFor (tookOf freshServer (covering (x ∷ [])) (log (x ∷ [])) zeroRow .rows .committed) 5 ≡ 41
+unfolding latestAfter tookOf
+took-without-its-row = refl

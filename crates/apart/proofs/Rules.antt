@@ -2,10 +2,10 @@
 use mathlib.Core.Path.{_≡_, refl}
 use mathlib.Core.Bool.{true, false}
 use mathlib.Core.List.{[], _∷_}
-use Rattle.base.specs.Numbers.{every, count, highest}
+use Rattle.base.specs.Numbers.{every, count}
 use Rattle.base.specs.Lists.{eachFrom}
 use Rattle.clock.specs.Times.{isBefore}
-use Rattle.log.specs.Entries.{entryAt, latestValue}
+use Rattle.log.specs.Entries.{entryAt}
 use Rattle.log.specs.Rows.{latestAfter}
 use Rattle.mail.specs.Queues.{queued}
 use Rattle.cluster.specs.declared.Server.{Server}

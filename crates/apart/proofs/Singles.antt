@@ -7,6 +7,7 @@ use Rattle.clock.specs.declared.Time.{Time}
 use Rattle.clock.specs.Times.{isBefore, laterOf, tickOf}
 use Rattle.log.specs.Entries.{entryAt}
 use Rattle.log.specs.Logs.{logLimit, live, hasRoom, appended}
+use Rattle.log.specs.Rows.{valueFor, latestAfter}
 use Rattle.mail.specs.declared.Report.{Report}
 use Rattle.mail.specs.Reports.{zeroNote, noteOf, givesWay}
 use Rattle.mail.specs.Queues.{oldestTaken}
@@ -140,3 +141,16 @@ takes-and-keeps-the-report = refl
 
 pub takes-from-an-empty-queue : takesReportOf freshServer .answer ≡ Refused ConditionUnmet
 takes-from-an-empty-queue = refl
+
+-- ---- rows
+
+pub a-restart-keeps-the-committed-row : valueFor (restartsOf (covering (x ∷ [])) .server .rows .committed) 5 ≡ 0
+a-restart-keeps-the-committed-row = refl
+
+pub a-write-leaves-its-row : valueFor (stampedOf (leader []) 5 41 (at 1 0) .rows .whole) 5 ≡ 41
+unfolding latestAfter stampedOf
+a-write-leaves-its-row = refl
+
+pub a-write-goes-into-the-committed-row : valueFor (stampedOf (leader (x ∷ [])) 6 7 (at 2 0) .rows .whole) 5 ≡ 41
+unfolding latestAfter stampedOf
+a-write-goes-into-the-committed-row = refl

@@ -19,7 +19,7 @@ use Rattle.mail.specs.Queues.{queueLimit}
 use Rattle.mail.specs.Mails.{noteSlots, zeroMail, withNotes, withQueue}
 use Rattle.cluster.specs.declared.Server.{Server}
 use Rattle.cluster.specs.declared.Cluster.{Cluster}
-use Rattle.cluster.specs.Servers.{withHead, withLog, zeroServer, freshServer, freshCluster}
+use Rattle.cluster.specs.Servers.{zeroServer, freshCluster}
 
 abbrev pub at : ℕ → ℕ → Time
 at p l = record { p = p; l = l }

@@ -34,6 +34,7 @@ use Rattle.log.specs.Order.{highestKey}
 use Rattle.log.specs.Ranges.{FitsEntry}
 use Rattle.log.proofs.Common as common
 use Rattle.log.proofs.Equal as equal
+use Rattle.log.specs.Rows.{valueFor}
 use Rattle.log.proofs.Latest as latest
 use Rattle.cluster.specs.declared.Server.{Server}
 use Rattle.cluster.specs.Sets.{bits, membersOf, mostOf}
@@ -45,6 +46,10 @@ use Rattle.steps.proofs.Numbers as numbers
 use Rattle.wholes.specs.Starts.{startRules}
 use Rattle.counts.specs.Advances.{passes, highestPassing}
 use Rattle.counts.proofs.Passing as passing
+use Rattle.reads.specs.LocalRead.{localReadOf}
+use Rattle.reads.specs.MajorityRead.{covered, majorityReadOf}
+use Rattle.reads.specs.Lists.{wholeList, committedList}
+use Rattle.reads.proofs.Walks as walks
 use Rattle.hex.specs.Digits.{radix, digitOf, charOf}
 use Rattle.hex.specs.Lines.{chars}
 use Rattle.hex.proofs.Values as values
@@ -678,6 +683,24 @@ found-is-for-the-key = latest.found-key
 
 pub none-for-the-key-after : (key : ℕ) (es : List Entry) (n : ℕ) → latest.found key es < n → n ≤ length es → entryAt es n .key ≡ key → ⊥
 none-for-the-key-after = latest.found-last
+
+-- kinds 10 and 11 answer from rows, which in a well-formed record have what a read finds, in the whole log and in the covered entries
+pub the-row-has-the-latest : (c : Cluster) → Fits c → wellFormed c ≡ true → (i key : ℕ) → i < c .count → key ≤ highestKey
+    → valueFor (serverAt c i .rows .whole) key ≡ latestValue key (live (serverAt c i .log))
+the-row-has-the-latest c f h i key l k = walks.local-walks (facts.good c f h .counted i l) key k
+
+pub the-committed-row-has-the-latest : (c : Cluster) → Fits c → wellFormed c ≡ true → (i key : ℕ) → i < c .count → key ≤ highestKey
+    → valueFor (serverAt c i .rows .committed) key ≡ latestValue key (covered (serverAt c i))
+the-committed-row-has-the-latest c f h i key l k = walks.majority-walks (facts.good c f h .counted i l) key k
+
+-- all values of any server at once are those that kinds 10 and 11 would answer, with their times
+pub listed-as-read-locally : (s : Server) (key : ℕ) → key ≤ highestKey → (asked : Time) → isBefore (wholeList s .time) asked ≡ false
+    → localReadOf s key asked .answer ≡ A.Value (valueFor (wholeList s .latest) key) (wholeList s .time)
+listed-as-read-locally = walks.whole-listed
+
+pub listed-as-read-by-majority : (s : Server) (key : ℕ) → key ≤ highestKey → (asked : Time) → isBefore (committedList s .time) asked ≡ false
+    → majorityReadOf s key asked .answer ≡ A.Value (valueFor (committedList s .latest) key) (committedList s .time)
+listed-as-read-by-majority = walks.committed-listed
 
 -- the ones of a mask are the set's members, and two majorities share a server
 pub ones-are-members : (m : ℕ) → m < 2 ^ bits → ones m ≡ membersOf m

@@ -77,12 +77,9 @@ freshServer = withHead zeroServer (withWall zeroHead 1)
 -- what the language takes for an element past an array's end
 abbrev pub pastServer : Server
 pastServer =
-    record {
-      head = zeroHead;
-      log = record { entries = []; len = 0 };
-      mail = record { notes = []; queue = record { reports = []; len = 0 }; source = 0 };
-      rows = record { whole = record { values = [] }; committed = record { values = [] } };
-    }
+    withRows
+    (withMail (withLog zeroServer (record { entries = []; len = 0 })) (record { notes = []; queue = record { reports = []; len = 0 }; source = 0 }))
+    (record { whole = record { values = [] }; committed = record { values = [] } })
 
 -- the server count, cut at seven so that it is one for every record
 abbrev pub serverCount : Cluster → ℕ

@@ -3,13 +3,13 @@ use mathlib.Core.Path.{_≡_, refl, ap, sym, _∙_, subst}
 use mathlib.Core.List.{List, [], _∷_, _++_, append-nil}
 use mathlib.Core.Bool.{Bool, true, false, cond, _&&_}
 use mathlib.Core.Logic.{⊎-elim}
-use Prim.Native.Nat.{ℕ, zero, suc, _+_, _<_, _≤_}
+use Prim.Native.Nat.{ℕ, suc, _+_, _<_, _≤_}
 use native.Mathlib.Numerals.{add-one}
 use native.Mathlib.Omega.{arith}
 use lib.Dec.{eqb, leb}
-use lib.ListN.{length, getD, take, drop, set, length-take, length-set, take-append-drop, drop-of-length-le, length-replicate, getD-replicate}
-use lib.Seq.{take-append-seam, append-snoc, take-take, take-length, drop-cons, getD-take, getD-set-same, getD-set-other, ext-getD}
-use borrow.Author.Tests.{eqb-true, eqb-false, leb-true, leb-false, eq-eqb}
+use lib.ListN.{length, getD, take, drop, set, length-set, take-append-drop, drop-of-length-le, length-replicate, getD-replicate}
+use lib.Seq.{take-append-seam, append-snoc, take-take, take-length, drop-cons, getD-set-same, getD-set-other, ext-getD}
+use borrow.Author.Tests.{eqb-true, eqb-false, leb-false, eq-eqb}
 use Rattle.base.specs.Numbers.{highest}
 use Rattle.base.proofs.Bools.{and-both, and-left, and-right}
 use Rattle.base.proofs.Every.{every-at, every-all, every-same}
@@ -19,9 +19,9 @@ use Rattle.log.specs.declared.Log.{Log}
 use Rattle.log.specs.declared.rows.Latest.{Latest}
 use Rattle.log.specs.declared.rows.Rows.{Rows}
 use Rattle.log.specs.Entries.{zeroEntry, entryAt, latestValue}
-use Rattle.log.specs.Logs.{emptyLog, live, lengthOf, latestIn}
+use Rattle.log.specs.Logs.{live, lengthOf}
 use Rattle.log.specs.Order.{highestKey}
-use Rattle.log.specs.Rows.{keys, zeroRow, zeroRows, valueFor, latestAfter, latestOver, between, rowsOf, sameRow, rowOk, rowsOk}
+use Rattle.log.specs.Rows.{keys, zeroRow, valueFor, latestAfter, latestOver, between, rowsOf, sameRow, rowOk, rowsOk}
 use Rattle.log.specs.Ranges.{FitsLatest, FitsRows}
 use Rattle.log.proofs.Latest.{found, latest-found, found-le, found-key, found-at, latest-first, key-of, value-of}
 use Rattle.log.proofs.Positions.{length-more, entryAt-new}

@@ -1,5 +1,5 @@
 -- In a well-formed record kinds 10 and 11 answer what a walking read finds, as 01 words it; and all values at once are their answers. Assumes nothing.
-use mathlib.Core.Path.{_≡_, refl}
+use mathlib.Core.Path.{_≡_}
 use mathlib.Core.Bool.{false}
 use Prim.Native.Nat.{ℕ, _≤_}
 use native.Mathlib.Omega.{arith}
