@@ -93,13 +93,13 @@ apart() {
     done
 }
 
-# Sets x, y and z to descriptors that the caller has not opened, so that no file that is named can be behind one. 5 and 6 are the program's.
+# Sets x, y and z to descriptors that the caller has not opened, so that no file that is named can be behind one. 5, 6 and 7 are the program's.
 spare() {
     x='' y='' z=''
-    for number in 3 4 7 8 9; do
+    for number in 3 4 8 9; do
         if ! eval "{ true <&$number; } 2>/dev/null"; then z=$y y=$x x=$number; fi
     done
-    [ -n "$z" ] || die "too many descriptors are open: of 3, 4, 7, 8 and 9 three have to be free"
+    [ -n "$z" ] || die "too many descriptors are open: of 3, 4, 8 and 9 three have to be free"
 }
 spare
 

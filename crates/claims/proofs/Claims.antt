@@ -390,7 +390,7 @@ pub only-the-line-is-left : (c : Cluster) (r q : Reader) (text : List ℕ) → l
     → ended (runs (record { cluster = c; reader = r }) text) ≡ ended (runs (record { cluster = c; reader = q }) text)
 only-the-line-is-left = shown.only-line-left
 
--- the program's own functions do with a piece, a turn, a whole input and a text that is loaded what their definitions say
+-- the program's own functions do with a text of orders, a piece, a turn, a whole input, a text that is loaded and a run as ordered what their definitions say
 pub the-program-is-as-defined : program.ProgramIs
 the-program-is-as-defined = program.program-is
 

@@ -1,4 +1,4 @@
-// Reads step lines from standard input to its end and writes an answer line for each.
+// Reads step lines from standard input to its end and writes an answer line for each, or does what else is ordered.
 fn main() {
     shell::run();
 }

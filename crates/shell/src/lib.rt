@@ -1,6 +1,7 @@
-// Whole programs, thin over the proved libraries: step lines from standard input to its end, an answer line for each, and the record loaded
-// before and saved after. A program crate of one line calls `run`, `save` or `carry`.
+// The whole program, thin over the proved libraries: its orders, step lines from standard input to its end, an answer line for each, and the
+// record loaded before and saved after. A program crate of one line calls `run`.
 mod faults;
+pub mod orders;
 mod saves;
 mod say;
 mod tell;
@@ -13,11 +14,14 @@ ghost use Rattle.lines.specs.Texts.{placed};
 ghost use Rattle.replay.specs.Pieces.{answerLine, says};
 ghost use Rattle.lines.specs.Turns.{mostPiece};
 ghost use Rattle.shell.specs.Loop.{closedBy, finishedBy, Poured, Turned, Drains, Finishes, Answered};
+ghost use Rattle.shell.specs.AsOrdered.{answersDue, isSavedBy, BeginsBy, RunsBy};
 use cluster::Cluster;
 use libc::STDIN_FILENO;
 use libc::STDOUT_FILENO;
 use lines::End;
 use lines::PIECE;
+use orders::Ordered;
+use orders::Orders;
 use replay::Session;
 use saves::Led;
 
@@ -37,6 +41,13 @@ fn write_first(fd: i32, out: &[u8], n: usize) -> bool {
     io::write_all(fd, &out[..n])
 }
 
+// How many of the bytes that answers have are written: none where the run is quiet.
+fn answers_due(quiet: bool, n: usize) -> usize
+    ensures { λ r. ⌜ r ≡ answersDue quiet n ⌝ }
+{
+    if quiet { 0 } else { n }
+}
+
 // A piece is over, by whether its answers were written.
 fn closed(s: Session, wrote: bool) -> Drained
     ensures { λ r. ⌜ r ≡ closedBy s wrote ⌝ }
@@ -54,18 +65,19 @@ fn closed(s: Session, wrote: bool) -> Drained
 }
 
 // All of one piece, in one go: there is room for every answer.
-fn pour(s: Session, piece: &[u8], out: &mut [u8]) -> Drained
+fn pour(quiet: bool, s: Session, piece: &[u8], out: &mut [u8]) -> Drained
     requires { ⌜ answerLine * length (now piece) ≤ length (now out) ⌝ }
     ensures result { λ r. ⌜ Poured s (now (piece .entry)) r ⌝ }
     ensures output { λ _. ⌜ now (out .exit) ≡ placed (now (out .entry)) 0 (says s (now (piece .entry))) ⌝ }
 {
     let f = replay::pour(s, piece, out);
     let d = f.session;
-    closed(d, write_first(STDOUT_FILENO, out, f.wrote))
+    let n = answers_due(quiet, f.wrote);
+    closed(d, write_first(STDOUT_FILENO, out, n))
 }
 
 // One turn with what a read answered: a short piece is a piece like any other, and only none at all is the end of the input.
-fn turn(s: Session, buffer: &[u8], got: isize, out: &mut [u8]) -> Drained
+fn turn(quiet: bool, s: Session, buffer: &[u8], got: isize, out: &mut [u8]) -> Drained
     requires { ⌜ answerLine * length (now buffer) ≤ length (now out) ⌝ }
     ensures { λ r. ⌜ Turned s (now (buffer .entry)) got r ⌝ }
 {
@@ -82,11 +94,11 @@ fn turn(s: Session, buffer: &[u8], got: isize, out: &mut [u8]) -> Drained
         };
     }
     let n = io::count(got, buffer);
-    pour(s, &buffer[..n], out)
+    pour(quiet, s, &buffer[..n], out)
 }
 
 // Standard input to its end. The count of turns only makes the loop end: nobody lives to see it run out.
-fn drain(s: Session, out: &mut [u8]) -> Drained
+fn drain(quiet: bool, s: Session, out: &mut [u8]) -> Drained
     requires { ⌜ answerLine * mostPiece ≤ length (now out) ⌝ }
     ensures { λ r. ⌜ Drains s r ⌝ }
 {
@@ -95,7 +107,7 @@ fn drain(s: Session, out: &mut [u8]) -> Drained
     while turns > 0 {
         let mut buffer = [0; PIECE];
         let got = libc::read(STDIN_FILENO, &mut buffer);
-        let t = turn(d, &buffer, got, out);
+        let t = turn(quiet, d, &buffer, got, out);
         let e = t.session;
         d = e;
         let end = t.end;
@@ -127,23 +139,24 @@ fn finished(c: Cluster, wrote: bool) -> Led
 }
 
 // The end of the input: the rest is answered.
-fn ended(s: Session, out: &mut [u8]) -> Led
+fn ended(quiet: bool, s: Session, out: &mut [u8]) -> Led
     requires { ⌜ answerLine ≤ length (now out) ⌝ }
     ensures { λ r. ⌜ Finishes s r ⌝ }
 {
     let f = replay::close(s, out);
     let d = f.session;
     let c = d.cluster;
-    finished(c, write_first(STDOUT_FILENO, out, f.wrote))
+    let n = answers_due(quiet, f.wrote);
+    finished(c, write_first(STDOUT_FILENO, out, n))
 }
 
 // Says why the input wasn't answered to its end.
-fn broke_off(s: Session, end: End) -> Led
+fn broke_off(quiet: bool, s: Session, end: End) -> Led
     ensures { λ r. ⌜ r .well ≡ false ⌝ }
 {
     match end {
         End::CannotWrite => say::cannot_write(),
-        _ => say::cannot_read(),
+        _ => say::cannot_read(quiet),
     }
     let c = s.cluster;
     Led {
@@ -153,43 +166,65 @@ fn broke_off(s: Session, end: End) -> Led
 }
 
 // All of standard input, answered from the record on; the record after it.
-fn answered(c: Cluster) -> Led
+fn answered(quiet: bool, c: Cluster) -> Led
     ensures { λ r. ⌜ Answered c r ⌝ }
 {
     let mut out = [0; ROOM];
-    let p = drain(replay::begin(c), &mut out);
+    let p = drain(quiet, replay::begin(c), &mut out);
     let d = p.session;
     let end = p.end;
     let End::Input = end else {
-        return broke_off(d, end);
+        return broke_off(quiet, d, end);
     };
-    ended(d, &mut out)
+    ended(quiet, d, &mut out)
 }
 
-// Saves the record after all lines, where all went well.
-fn saved_after(c: Cluster) {
-    let l = answered(c);
-    let d = l.cluster;
-    if l.well {
-        saves::store(d);
+// The record that a run begins with: one that is loaded, or the one before the first start.
+fn first_record(o: Orders) -> Led
+    ensures { λ r. ⌜ BeginsBy o r ⌝ }
+{
+    if o.load {
+        return saves::load();
+    }
+    Led {
+        cluster: cluster::zero_cluster(),
+        well: true,
     }
 }
 
-// The program, from the record before the first start. What it reads and writes no contract can say.
-pub fn run() {
-    answered(cluster::zero_cluster());
-}
-
-// The program that saves the last record.
-pub fn save() {
-    saved_after(cluster::zero_cluster());
-}
-
-// The program that begins with a saved record and saves the last one.
-pub fn carry() {
-    let l = saves::load();
+// A run as ordered: the record after it. Where there is none to begin with, nothing is read.
+fn run_through(o: Orders) -> Led
+    ensures { λ r. ⌜ RunsBy o r ⌝ }
+{
+    let l = first_record(o);
+    if !l.well {
+        return l;
+    }
     let c = l.cluster;
-    if l.well {
-        saved_after(c);
+    answered(o.list, c)
+}
+
+// Whether the record is saved.
+fn is_saved(o: Orders, well: bool) -> bool
+    ensures { λ r. ⌜ r ≡ isSavedBy o well ⌝ }
+{
+    o.save && well
+}
+
+// A run as ordered, and what is left of it.
+fn obey(o: Orders) {
+    let l = run_through(o);
+    let c = l.cluster;
+    if is_saved(o, l.well) {
+        saves::store(c);
+    }
+}
+
+// The program. What it reads and writes no contract can say.
+pub fn run() {
+    let given = orders::given();
+    match given {
+        Ordered::Known(o) => obey(o),
+        Ordered::Unknown => say::unknown_orders(),
     }
 }

@@ -23,12 +23,24 @@ pub(crate) fn time(words: &[u8], t: Time) {
     say(b")");
 }
 
+pub(crate) fn unknown_orders() {
+    say(
+        b"replay: nothing is done: descriptor 7 has orders that this program doesn't know; it knows a line of 00 to 07, or nothing at all\n",
+    );
+}
+
 pub(crate) fn cannot_write() {
     say(b"replay: standard output can't be written, so the answers break off here\n");
 }
 
-pub(crate) fn cannot_read() {
-    say(b"replay: standard input can't be read any further; the lines before are answered\n");
+// A quiet run has answered nothing.
+pub(crate) fn cannot_read(quiet: bool) {
+    say(b"replay: standard input can't be read any further");
+    if quiet {
+        say(b", so nothing is listed\n");
+    } else {
+        say(b"; the lines before are answered\n");
+    }
 }
 
 pub(crate) fn cannot_save() {

@@ -9,10 +9,10 @@ use Rattle.shell.proofs.drain.Statement.{statement}
 use Rattle.shell.proofs.drain.Tie as tie
 
 abbrev Inv-loop : tie.InvT-loop
-Inv-loop out₀ d₀ turns₀ out d turns = (length out ≡ length out₀) × Going d₀ d turns
+Inv-loop quiet out₀ d₀ turns₀ out d turns = (length out ≡ length out₀) × Going d₀ d turns
 
 abbrev μ-loop : tie.MeasureT-loop
-μ-loop out₀ d₀ turns₀ out d turns = turns
+μ-loop quiet out₀ d₀ turns₀ out d turns = turns
 
 loop-holds : tie.Need-loop-holds Inv-loop μ-loop
 loop-holds c = (refl, begins _)

@@ -7,6 +7,9 @@ use Rattle.shell.proofs.ended.Tie as tie
 close-requires : tie.Need-close-requires
 close-requires c κs = search needs
 
+answers-due-requires : tie.Need-answers-due-requires
+answers-due-requires c κs = search needs
+
 write-first-requires : tie.Need-write-first-requires
 write-first-requires c κs = search needs
 
@@ -18,8 +21,8 @@ same-length c = search needs
 
 returns : tie.Need-returns
 returns c =
-    let finished = c .before .before .before .before .before .before .before in
+    let finished = c .before .before .before .before .before .before .before .before in
     finishes _ _ _ _ _ (finished .before .before .before .pre) (finished .close .ensures .0) (c .finished .ensures)
 
 pub ended-spec : {M : Type 1} → statement M
-ended-spec = tie.close (tie.spec close-requires write-first-requires finished-requires same-length returns)
+ended-spec = tie.close (tie.spec close-requires answers-due-requires write-first-requires finished-requires same-length returns)

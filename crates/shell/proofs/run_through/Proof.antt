@@ -1,0 +1,25 @@
+-- `shell::run_through` meets its contract. Assumes nothing.
+use mathlib.Core.Path.{refl}
+use borrow.Author.Needs.{needs}
+use Rattle.base.proofs.Bools.{said-no, said-yes}
+use Rattle.shell.proofs.AsOrdered.{runs-none, runs-all}
+use Rattle.shell.proofs.run_through.Statement.{statement}
+use Rattle.shell.proofs.run_through.Tie as tie
+
+first-record-requires : tie.Need-first-record-requires
+first-record-requires c κs = search needs
+
+returns : tie.Need-returns
+returns c = runs-none _ _ (c .before .before .first-record .ensures) (said-no _ _ refl (c .if1 .taken))
+
+answered-requires : tie.Need-answered-requires
+answered-requires c κs = search needs
+
+returns-2 : tie.Need-returns-2
+returns-2 c =
+    let tested = c .before .before in
+    let first = tested .before .before .first-record in
+    runs-all _ (first .result) _ (first .ensures) (said-yes _ _ refl (tested .if1 .left)) (c .answered .ensures)
+
+pub run-through-spec : {M : Type 1} → statement M
+run-through-spec = tie.close (tie.spec first-record-requires returns answered-requires returns-2)
