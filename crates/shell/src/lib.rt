@@ -1,6 +1,7 @@
 // The whole program, thin over the proved libraries: its orders, step lines from standard input to its end, an answer line for each, and the
-// record loaded before and saved after. A program crate of one line calls `run`.
+// record loaded before, saved after, and listed in the place of answers. A program crate of one line calls `run`.
 mod faults;
+mod list;
 pub mod orders;
 mod saves;
 mod say;
@@ -211,11 +212,15 @@ fn is_saved(o: Orders, well: bool) -> bool
     o.save && well
 }
 
-// A run as ordered, and what is left of it.
+// A run as ordered, and what is left of it: the table, and then the saved form, unless the table couldn't be written.
 fn obey(o: Orders) {
     let l = run_through(o);
     let c = l.cluster;
-    if is_saved(o, l.well) {
+    let mut well = l.well;
+    if o.list && well {
+        well = list::table(c);
+    }
+    if is_saved(o, well) {
         saves::store(c);
     }
 }

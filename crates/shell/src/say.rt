@@ -52,6 +52,15 @@ pub(crate) fn nothing_to_save() {
     say(b"replay: there is nothing to save (refusal 2): no start line has begun a cluster\n");
 }
 
+// The same before a table.
+pub(crate) fn nothing_to_list() {
+    say(b"replay: there is nothing to list: no start line has begun a cluster\n");
+}
+
+pub(crate) fn cannot_list() {
+    say(b"replay: standard output can't be written, so the table breaks off here\n");
+}
+
 pub(crate) fn cannot_load() {
     say(b"replay: the saved record can't be read to its end, so nothing is loaded\n");
 }
