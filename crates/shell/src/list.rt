@@ -5,6 +5,9 @@ use clock::Time;
 use cluster::Cluster;
 use cluster::Server;
 use libc::STDOUT_FILENO;
+use log::rows::KEYS;
+use reads::lists;
+use reads::lists::Listed;
 
 // Where the columns of a row begin.
 const ROLE: usize = 8;
@@ -25,41 +28,12 @@ const STEP: usize = 11;
 // How many characters a row has room for, its line feed among them.
 const WIDTH: usize = 96;
 
-const KEYS: usize = 16;
-
-// A value for each key, 0 where there is none, and the time that they are as of.
-struct Builds {
-    values: [u16; KEYS],
-    time: Time,
-}
-
 // A row of the table: its characters, where the next of them and the next car go, and whether all before it could be written.
 struct Row {
     text: [u8; WIDTH],
     fill: usize,
     car: usize,
     wrote: bool,
-}
-
-// The latest values of a server's committed beginning or of its whole log.
-fn listed(s: Server, committed: bool) -> Builds {
-    let g = s.log;
-    let n = if committed {
-        s.head.commit
-    } else {
-        log::length_of(g)
-    };
-    let mut values = [0u16; KEYS];
-    let mut key: usize = 0;
-    while key < KEYS {
-        let value = log::latest_value(g, key as u8, n);
-        values[key] = value;
-        key += 1;
-    }
-    Builds {
-        values: values,
-        time: log::time_at(g, n),
-    }
 }
 
 fn blank(wrote: bool) -> Row {
@@ -151,9 +125,10 @@ fn cars(r: Row, values: [u16; KEYS], safe: [u16; KEYS]) -> Row {
 }
 
 // Writes the rows of one part of a log.
-fn part(r: Row, words: &[u8], l: Builds, safe: [u16; KEYS]) -> Row {
+fn part(r: Row, words: &[u8], l: Listed, safe: [u16; KEYS]) -> Row {
     let t = l.time;
-    let values = l.values;
+    let latest = l.latest;
+    let values = latest.values;
     let named = put(to_column(r, PART), words);
     let timed = time(to_column(named, AS_OF), t);
     let q = cars(timed, values, safe);
@@ -182,20 +157,23 @@ fn role(r: Row, primary: bool) -> Row {
 }
 
 // Writes the rows of a server's committed beginning.
-fn committed(r: Row, s: Server, l: Builds) -> Row {
+fn committed(r: Row, s: Server, l: Listed) -> Row {
     if s.head.commit == 0 {
         return next(put(to_column(r, PART), b"committed  nothing"));
     }
-    let safe = l.values;
+    let latest = l.latest;
+    let safe = latest.values;
     part(r, b"committed", l, safe)
 }
 
 // Writes a server's rows, where all before them could be written; whether they could.
 fn server(i: usize, s: Server, wrote: bool) -> bool {
-    let covered = listed(s, true);
-    let whole = listed(s, false);
-    let safe = covered.values;
-    let values = whole.values;
+    let covered = lists::committed_list(s);
+    let whole = lists::whole_list(s);
+    let committed_row = covered.latest;
+    let whole_row = whole.latest;
+    let safe = committed_row.values;
+    let values = whole_row.values;
     let numbered = number(blank(wrote), i);
     let named = role(to_column(numbered, ROLE), s.head.primary);
     let begun = number(to_column(named, TERM), s.head.term as usize);
