@@ -1,5 +1,4 @@
 // What a step changed, looked for in every slot.
-use crate::latest;
 use crate::numbers;
 use crate::say;
 use crate::told;
@@ -26,10 +25,7 @@ fn unchanged(s: Server, t: Server) -> bool {
     if !same_slots(g, h) {
         return false;
     }
-    if !latest::same(s.rows, t.rows) {
-        return false;
-    }
-    told::same(s.mail, t.mail)
+    told::same(s, t)
 }
 
 // Writes server i where t isn't s. Whether all servers up to it are the same, where those before it are so far.
@@ -40,8 +36,7 @@ fn same_server(i: usize, s: Server, t: Server, so_far: bool) -> bool {
     let g = t.log;
     say::row(b"server", say::numbers_of(i, t));
     say::entries(i, g);
-    latest::show(i, t.rows);
-    told::show(i, t.mail);
+    told::show(i, t);
     false
 }
 

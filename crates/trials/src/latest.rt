@@ -1,5 +1,4 @@
 // A server's rows of latest values: the lines `latest`, which set a value and show it.
-use crate::numbers;
 use crate::numbers::PLACES;
 use crate::numbers::byte;
 use crate::numbers::word;
@@ -13,7 +12,7 @@ use log::rows::Rows;
 pub(crate) const LATEST: usize = 4;
 
 // A line for each key of both rows.
-const LINES: usize = 2 * KEYS;
+pub(crate) const LATEST_LINES: usize = 2 * KEYS;
 
 // The row with this value; there is such a key.
 fn with_value(v: Latest, key: usize, value: u16) -> Latest {
@@ -59,39 +58,11 @@ fn value_row(i: usize, which: usize, key: usize, v: Latest) -> [usize; PLACES] {
 }
 
 // The numbers of line k of server i: the row of the whole log first.
-fn row_of(i: usize, r: Rows, k: usize) -> [usize; PLACES] {
+pub(crate) fn row_of(i: usize, r: Rows, k: usize) -> [usize; PLACES] {
     let whole = r.whole;
     let committed = r.committed;
     if k < KEYS {
         return value_row(i, 0, k, whole);
     }
     value_row(i, 1, k - KEYS, committed)
-}
-
-// Whether both rows are the same.
-pub(crate) fn same(r: Rows, t: Rows) -> bool {
-    let mut k: usize = 0;
-    while k < LINES {
-        if !numbers::same(row_of(0, r, k), row_of(0, t, k)) {
-            return false;
-        }
-        k += 1;
-    }
-    true
-}
-
-// Writes a line where there is a value.
-fn show_row(n: [usize; PLACES]) {
-    if n[4] != 0 {
-        say::row(b"latest", n);
-    }
-}
-
-// Writes the values of server i.
-pub(crate) fn show(i: usize, r: Rows) {
-    let mut k: usize = 0;
-    while k < LINES {
-        show_row(row_of(i, r, k));
-        k += 1;
-    }
 }

@@ -1,4 +1,7 @@
-// What a server was told: the lines `mail`, `note` and `report`, which set it and show it.
+// What a server was told: the lines `mail`, `note` and `report`, which set it and show it; and all that a server keeps beside its log, line by line.
+use crate::latest;
+use crate::latest::LATEST;
+use crate::latest::LATEST_LINES;
 use crate::numbers;
 use crate::numbers::PLACES;
 use crate::numbers::byte;
@@ -17,8 +20,8 @@ pub(crate) const NOTE: usize = 5;
 
 pub(crate) const REPORT: usize = 6;
 
-// A line `mail`, one for each note and one for each slot of the queue say all that a server was told.
-const LINES: usize = 1 + mail::NOTE_SLOTS + mail::QUEUE_LIMIT;
+// The lines of both rows, a line `mail`, one for each note and one for each slot of the queue say all that a server keeps beside its log.
+const LINES: usize = LATEST_LINES + 1 + mail::NOTE_SLOTS + mail::QUEUE_LIMIT;
 
 // The server with the queue's length and the source of a line `mail`.
 pub(crate) fn with_mail(s: Server, n: [usize; PLACES]) -> Server {
@@ -100,8 +103,8 @@ fn report_row(i: usize, k: usize, r: Report) -> [usize; PLACES] {
     ]
 }
 
-// The numbers of line k of server i: `mail` first, then the notes, then the slots of the queue.
-fn row_of(i: usize, m: Mail, k: usize) -> [usize; PLACES] {
+// The numbers of line k of what server i was told: `mail` first, then the notes, then the slots of the queue.
+fn told_row(i: usize, m: Mail, k: usize) -> [usize; PLACES] {
     if k == 0 {
         return [MAIL, i, m.queue.len, m.source, 0, 0, 0, 0, 0];
     }
@@ -114,11 +117,21 @@ fn row_of(i: usize, m: Mail, k: usize) -> [usize; PLACES] {
     report_row(i, at, mail::report_at(q, at))
 }
 
-// Whether both were told the same, in every slot.
-pub(crate) fn same(m: Mail, o: Mail) -> bool {
+// The numbers of line k of server i: its rows first, and then what it was told.
+fn row_of(i: usize, s: Server, k: usize) -> [usize; PLACES] {
+    let r = s.rows;
+    let m = s.mail;
+    if k < LATEST_LINES {
+        return latest::row_of(i, r, k);
+    }
+    told_row(i, m, k - LATEST_LINES)
+}
+
+// Whether both keep the same beside their logs, in every slot.
+pub(crate) fn same(s: Server, t: Server) -> bool {
     let mut k: usize = 0;
     while k < LINES {
-        if !numbers::same(row_of(0, m, k), row_of(0, o, k)) {
+        if !numbers::same(row_of(0, s, k), row_of(0, t, k)) {
             return false;
         }
         k += 1;
@@ -132,17 +145,18 @@ fn show_row(n: [usize; PLACES], zero: [usize; PLACES]) {
         return;
     }
     match n[0] {
+        LATEST => say::row(b"latest", n),
         MAIL => say::row(b"mail", n),
         NOTE => say::row(b"note", n),
         _ => say::row(b"report", n),
     }
 }
 
-// What server i was told: each line that isn't all zero, used or not and past the length or not.
-pub(crate) fn show(i: usize, m: Mail) {
+// What server i keeps beside its log: each line that isn't all zero, used or not and past the length or not.
+pub(crate) fn show(i: usize, s: Server) {
     let mut k: usize = 0;
     while k < LINES {
-        show_row(row_of(i, m, k), row_of(i, mail::ZERO_MAIL, k));
+        show_row(row_of(i, s, k), row_of(i, cluster::ZERO_SERVER, k));
         k += 1;
     }
 }

@@ -5,10 +5,10 @@ use Rattle.trials.proofs.told.same.Statement.{statement}
 use Rattle.trials.proofs.told.same.Tie as tie
 
 abbrev Inv-loop : tie.InvT-loop
-Inv-loop m o k₀ k = k ≤ 16
+Inv-loop m o k₀ k = k ≤ 48
 
 abbrev μ-loop : tie.MeasureT-loop
-μ-loop m o k₀ k = 16 - k
+μ-loop m o k₀ k = 48 - k
 
 loop-holds : tie.Need-loop-holds Inv-loop μ-loop
 loop-holds c = search needs
