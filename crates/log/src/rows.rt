@@ -60,8 +60,11 @@ pub fn latest_over(v: Latest, g: Log, k: usize, n: usize) -> Latest
     let mut w = v;
     let mut i = k;
     while i < end {
-        let e = g.entries[i];
-        w = latest_after(w, e);
+        let key = g.entries[i].key;
+        if key <= HIGHEST_KEY {
+            let at = key as usize;
+            w.values[at] = g.entries[i].value;
+        }
         i += 1;
     }
     w
