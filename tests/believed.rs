@@ -54,7 +54,7 @@ const DECLARED: &str = ".declared.";
 /// The page of claims.
 const PAGE: &str = "crates/claims/proofs/Claims.antt";
 /// How many lines they may be.
-const MOST: usize = 1410;
+const MOST: usize = 1450;
 
 /// A definition by its module, as `log.Entries`, and its name.
 type Place = (String, String);

@@ -20,11 +20,11 @@ pub const WALL_CLOCKS: Climb =
 
 impl Run {
     fn raise_term(&mut self) {
-        self.elect_of(self.everyone());
+        self.elect_of(self.electors());
     }
 
     fn raise_wall_clock(&mut self) {
-        let a = self.with_most(self.everyone(), |server| server.wall_clock);
+        let a = self.with_most(self.electors(), |server| server.wall_clock);
         self.offer(Step::WallClock { a });
         self.near_the_end(a);
     }

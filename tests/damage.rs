@@ -29,6 +29,9 @@ damage --help              writes this
     more        a frame with all that it announces stands twice, and one more is announced
     fewer       a frame with all that it announces is left out, and one fewer is announced
     source      a server's source is itself, one past the count or ff; in the last text it is ff
+    first       the first frame is of edition 0, 1, 2, 3, 4 or ff, with a follower set and without
+    followers   the follower set, where there is one, has a server alone, all but one or none, or
+                all; also one past the count and bit 7
 and in the first frame of each sort:
     byte        a byte is 00, ff, one more or one less
     byte-cut    a byte is ff, and the last line feed is missing
@@ -75,7 +78,7 @@ fn write_all(mut prng: Prng, most: usize, folder: &str) -> io::Result<()> {
 }
 
 /// Each sort and all its texts.
-fn damaged(text: &[u8], prng: &mut Prng) -> [(&'static str, Vec<Vec<u8>>); 15] {
+fn damaged(text: &[u8], prng: &mut Prng) -> [(&'static str, Vec<Vec<u8>>); 17] {
     let lines: Vec<&[u8]> = text.split_inclusive(|&character| character == b'\n').collect();
     let (lines, places, numbers) = (&lines[..], 0..text.len(), || 0..lines.len());
     let as_crlf: Vec<_> = lines.iter().map(|line| crlf(line)).collect();
@@ -103,6 +106,8 @@ fn damaged(text: &[u8], prng: &mut Prng) -> [(&'static str, Vec<Vec<u8>>); 15] {
         ("times", lasts().flat_map(sized).collect()),
         ("times-cut", lasts().flat_map(sized).map(without_end).collect()),
         ("source", sources(lines)),
+        ("first", firsts_of_editions(lines)),
+        ("followers", follower_sets(lines)),
     ]
 }
 
@@ -150,6 +155,33 @@ fn sources(lines: &[&[u8]]) -> Vec<Vec<u8>> {
     let wrong = |own: usize| [own as u8 + 1, past, 255];
     let of = |own: usize| wrong(own).map(|source| with_byte(lines, servers[own], SOURCE, source));
     (0..servers.len()).flat_map(of).collect()
+}
+
+/// The lines with another first frame: that of each edition, and of some that there aren't, each
+/// with a follower set and without. The server count stays.
+fn firsts_of_editions(lines: &[&[u8]]) -> Vec<Vec<u8>> {
+    let Some([_, _, _, _, high, low, ..]) = lines.first() else { return Vec::new() };
+    let count = [*high, *low].map(char::from).iter().collect::<String>();
+    let told = [0, 1, 2, 3, 4, 255].map(|edition| format!("00{edition:02x}{count}"));
+    let wide = told.iter().flat_map(|first| ["00", "01", "02"].map(|set| format!("{first}{set}")));
+    let all: Vec<String> = told.iter().cloned().chain(wide).collect();
+    all.iter().map(|first| with(lines, 0..1, &[first.as_bytes(), b"\n"])).collect()
+}
+
+/// Where the follower set stands in the first line, and the length of a line that has it.
+const FOLLOWERS: usize = 6;
+const WITH_FOLLOWERS: usize = FOLLOWERS + 3;
+
+/// The lines with other followers; bits past seven are cut off.
+fn follower_sets(lines: &[&[u8]]) -> Vec<Vec<u8>> {
+    let Some(first) = lines.first().filter(|first| first.len() == WITH_FOLLOWERS) else {
+        return Vec::new();
+    };
+    let count = number(&first[4..6]).unwrap_or(0);
+    let all = (1usize << count) - 1;
+    let each = (0..=count).flat_map(|number| [1 << number, all & !(1 << number)]);
+    let sets = each.chain([0, 0x80, 0x83, 0xff]);
+    sets.map(|set| with_byte(lines, 0, FOLLOWERS, set as u8)).collect()
 }
 
 fn number(digits: &[u8]) -> Option<usize> {

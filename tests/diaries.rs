@@ -23,6 +23,9 @@ impl Phone {
     const NEW: Phone = Phone { at: 0, seen: Time::ZERO, awaits: Vec::new() };
 }
 
+/// The lines of a run that has room to fill a log in the end.
+const ROOM_TO_FILL: usize = 1_000;
+
 pub fn write_diaries(seed: u64, lines: usize, most: usize, folder: &str) -> io::Result<()> {
     let mut run = Run::new(seed);
     run.diaries(lines);
@@ -38,8 +41,8 @@ pub fn write_diaries(seed: u64, lines: usize, most: usize, folder: &str) -> io::
 
 impl Run {
     /// About so many lines; in some runs others come before the start, or a whole session. In most
-    /// the first or the last server alone covers what is covered last: nothing spreads after that. In
-    /// some no server covers anything any more in the end.
+    /// the first or the last voter alone covers what is covered last: nothing spreads after that. Of
+    /// the others, long ones fill a log. In some no server covers anything any more in the end.
     pub(super) fn diaries(&mut self, lines: usize) {
         match self.prng.below(6) {
             0 => self.before_first_start(),
@@ -48,9 +51,10 @@ impl Run {
         }
         self.begin();
         let mut phones = [0; PHONES].map(|_| Phone::NEW);
-        let last = self.count() as u8 - 1;
-        let alone = self.prng.pick(&[None, Some(0), Some(last), Some(0), Some(last)]);
-        while self.written < lines && !(alone.is_some() && self.is_nearly_full()) {
+        let [first, last] = self.outermost();
+        let alone = self.prng.pick(&[None, Some(first), Some(last)]);
+        let fills = alone.is_none() && lines >= ROOM_TO_FILL;
+        while self.written < lines && !((alone.is_some() || fills) && self.is_nearly_full()) {
             let phone = &mut phones[self.prng.below(PHONES)];
             match self.prng.below(16) {
                 0..=6 => self.visit(phone),
@@ -59,8 +63,10 @@ impl Run {
                 _ => self.go_on(),
             }
         }
-        if let Some(a) = alone {
-            self.cover_alone(&mut phones[0], a);
+        match alone {
+            Some(a) => self.cover_alone(&mut phones[0], a),
+            None if fills => self.fill_and_cover(),
+            None => {}
         }
         while self.written < lines {
             let phone = self.prng.below(PHONES);
@@ -88,6 +94,12 @@ impl Run {
             1 | 2 => self.phone_asks(phone, phone.at),
             _ => self.phone_reads(phone, phone.at),
         }
+    }
+
+    /// The first and the last who vote.
+    fn outermost(&self) -> [u8; 2] {
+        let electors = self.electors();
+        [electors.trailing_zeros() as u8, electors.ilog2() as u8]
     }
 
     fn any_server(&mut self) -> u8 {
@@ -133,7 +145,7 @@ impl Run {
     /// phone reads there.
     fn see_through(&mut self, phone: &mut Phone) {
         if !self.has_primary() {
-            self.elect_of(self.everyone());
+            self.elect_of(self.electors());
         }
         let a = self.primary();
         self.phone_writes(phone, a);
@@ -145,10 +157,33 @@ impl Run {
         self.phone_reads(phone, phone.at);
     }
 
-    /// Half of the others come after a, which then covers what it can.
+    /// Half of the others come after a, which then covers what it can; where few vote, all of them.
     fn cover(&mut self, a: u8) {
         self.follow(a);
+        if self.has_followers() {
+            for b in self.peers(&[a]) {
+                self.come_after(b, a);
+            }
+        }
         self.take_in(a);
+        self.offer(Step::Advances { a });
+    }
+
+    /// A log is filled, and all of it covered.
+    fn fill_and_cover(&mut self) {
+        let a = self.elect_of(self.electors());
+        self.fill_up(a);
+        self.cover_all(a);
+    }
+
+    /// All others come after a, which takes all their reports.
+    fn cover_all(&mut self, a: u8) {
+        for b in self.others(&[a]) {
+            self.catch_up(b, a);
+        }
+        while self.at(a).queue.length > 0 {
+            self.offer(Step::TakesReport { a });
+        }
         self.offer(Step::Advances { a });
     }
 
@@ -161,13 +196,7 @@ impl Run {
     fn cover_alone(&mut self, phone: &mut Phone, a: u8) {
         self.promote(a);
         self.phone_writes(phone, a);
-        for b in (0..self.count() as u8).filter(|&b| b != a) {
-            self.catch_up(b, a);
-        }
-        while self.at(a).queue.length > 0 {
-            self.offer(Step::TakesReport { a });
-        }
-        self.offer(Step::Advances { a });
+        self.cover_all(a);
         self.phone_asks(phone, a);
         self.phone_reads(phone, a);
     }
@@ -175,11 +204,11 @@ impl Run {
     /// A phone writes at a primary that has just lost an election, and is told that it isn't
     /// acknowledged; what the next one writes takes the place of that.
     fn lose(&mut self, phone: &mut Phone) {
-        let everyone = self.everyone();
-        let old = self.elect_of(everyone);
+        let electors = self.electors();
+        let old = self.elect_of(electors);
         self.phone_writes(phone, old);
         self.cover(old);
-        let new = self.elect_of(everyone & !(1 << old));
+        let new = self.elect_of(electors & !(1 << old));
         self.phone_writes(phone, old);
         self.phone_asks(phone, old);
         self.write_some(new);

@@ -22,6 +22,11 @@ impl Run {
         (1 << self.cluster.count) - 1
     }
 
+    /// Everyone who votes.
+    pub(super) fn electors(&self) -> u8 {
+        self.everyone() & !self.cluster.followers
+    }
+
     /// The server at a number that may be out of range.
     pub(super) fn at(&self, a: u8) -> &Server {
         &self.cluster.servers[usize::from(a) % SERVERS]
@@ -92,13 +97,14 @@ impl Run {
 
     fn set(&mut self, a: u8) -> u8 {
         let any = self.prng.below(256) as u8;
-        let everyone = self.everyone();
+        let (everyone, electors) = (self.everyone(), self.electors());
         match self.prng.below(15) {
             0 => any,
             1 => any & everyone,
             2 => everyone,
-            3 => everyone & !1u8.checked_shl(a.into()).unwrap_or(0),
-            _ => self.voters(a, everyone),
+            3 => electors & !1u8.checked_shl(a.into()).unwrap_or(0),
+            4 => self.voters(a, everyone),
+            _ => self.voters(a, electors),
         }
     }
 
@@ -173,7 +179,7 @@ impl Run {
     pub(super) fn draw(&mut self, kind: usize) -> Step {
         let a = self.server();
         match kind {
-            0 => Step::Start { servers: self.prng.pick(&[0, 1, 8, 9, 128, 255]) },
+            0 => self.refused_start(),
             1 => Step::Elect { a, set: self.set(a) },
             2 => Step::StepDown { a: self.primary() },
             3 => Step::Hears { a, b: self.source_for(a) },

@@ -64,8 +64,14 @@ fn ends(prng: &mut Prng, parts: usize, lines: &[&[u8]]) -> Vec<usize> {
     ends
 }
 
-/// Whether a line starts two to seven servers.
+/// Whether a line starts two to seven servers, of which at least two vote.
 fn is_start(line: &[u8]) -> bool {
-    let [b'0', b'0', b'0', b'2'..=b'7', unused @ ..] = line else { return false };
-    unused == b"0000000000000000000000\n"
+    let [b'0', b'0', b'0', count @ b'2'..=b'7', b'0', b'0', high, low, unused @ ..] = line else {
+        return false;
+    };
+    let digits = [high, low].map(|digit| char::from(*digit).to_digit(16));
+    let [Some(high), Some(low)] = digits else { return false };
+    let (count, followers) = (u32::from(count - b'0'), high << 4 | low);
+    let all_counted = followers >> count == 0;
+    all_counted && followers.count_ones() + 2 <= count && unused == b"000000000000000000\n"
 }

@@ -17,14 +17,15 @@ fn fields_of(step: &Step) -> Fields {
     const NUMBERS: Numbers = Numbers::NONE;
     const UNUSED: Fields = Fields { a: 0, b: 0, set_or_count: 0, key: 0, numbers: NUMBERS };
     match *step {
-        Step::Start { servers: a }
-        | Step::StepDown { a }
+        Step::StepDown { a }
         | Step::Advances { a }
         | Step::WallClock { a }
         | Step::Restarts { a }
         | Step::WritesNothing { a }
         | Step::TakesReport { a } => Fields { a, ..UNUSED },
-        Step::Elect { a, set } => Fields { a, set_or_count: set, ..UNUSED },
+        Step::Start { servers: a, followers: set } | Step::Elect { a, set } => {
+            Fields { a, set_or_count: set, ..UNUSED }
+        }
         Step::Hears { a, b } | Step::Pulls { a, b } | Step::RollsBack { a, b } => {
             Fields { a, b, ..UNUSED }
         }

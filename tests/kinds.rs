@@ -2,8 +2,8 @@
 
 use super::Condition::*;
 use super::Role::*;
-use super::{Answer, Cluster, Condition, ENTRIES, Entry, HIGHEST_POSITION, KEY_MAX};
-use super::{KEY_OF_NOTHING, Numbers, SERVERS, Server, Step, Time, refuse_if};
+use super::{Answer, Cluster, Condition, ENTRIES, Entry, FEWEST_VOTERS, HIGHEST_POSITION};
+use super::{KEY_MAX, KEY_OF_NOTHING, Numbers, SERVERS, Server, Step, Time, refuse_if};
 
 /// Takes one step in place; a refused one leaves the record as it was.
 pub fn step(cluster: &mut Cluster, step: &Step) -> Answer {
@@ -15,7 +15,7 @@ pub fn step_where(holds: impl Fn(&Cluster) -> bool, cluster: &mut Cluster, step:
     let looks_at_record = !matches!(step, Step::Start { .. });
     refuse_if(looks_at_record && !holds(cluster), NotWellFormed)?;
     match *step {
-        Step::Start { servers } => cluster.start(servers.into()),
+        Step::Start { servers, followers } => cluster.start(servers.into(), followers),
         Step::Elect { a, set } => cluster.elect(a.into(), set),
         Step::StepDown { a } => cluster.step_down(a.into()),
         Step::Hears { a, b } => cluster.hears(a.into(), b.into()),
@@ -69,10 +69,13 @@ impl Server {
 }
 
 impl Cluster {
-    fn start(&mut self, servers: usize) -> Answer {
+    fn start(&mut self, servers: usize, followers: u8) -> Answer {
         refuse_if(servers < 2, StartBelow2)?;
         refuse_if(servers > SERVERS, StartAbove7)?;
-        *self = Cluster::fresh(servers);
+        refuse_if(followers >> servers != 0, FollowerOutside)?;
+        let started = Cluster { followers, ..Cluster::fresh(servers) };
+        refuse_if(started.voters() < FEWEST_VOTERS, FewVoters)?;
+        *self = started;
         Ok(Numbers::NONE)
     }
 
@@ -80,6 +83,8 @@ impl Cluster {
         let is_member = |i: usize| set >> i & 1 == 1;
         refuse_if(a >= self.count, ServerOutside)?;
         refuse_if(set >> self.count != 0, MemberOutside)?;
+        refuse_if(self.is_follower(a), FollowerElected)?;
+        refuse_if(set & self.followers != 0, FollowerInSet)?;
         refuse_if(!self.is_majority(set.count_ones() as usize), NotAMajority)?;
         refuse_if(!is_member(a), OutsideItsSet)?;
         let candidate = &self.servers[a];

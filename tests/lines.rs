@@ -26,7 +26,7 @@ const fn all_but(used: u16) -> u16 {
 
 /// For each kind, which bytes must be zero.
 pub const MUST_BE_ZERO: [u16; KINDS] = [
-    all_but(A),
+    all_but(A | SET_OR_COUNT),
     all_but(A | SET_OR_COUNT),
     all_but(A),
     all_but(A | B),
@@ -79,7 +79,7 @@ fn read_frame(frame: &[u8; FRAME]) -> Result<Step, Condition> {
     let [kind, a, b, set, key, ..] = *frame;
     let (number, term, time) = (pair(5), pair(7), Time { p: pair(9), l: pair(11) });
     Ok(match kind {
-        0 => Step::Start { servers: a },
+        0 => Step::Start { servers: a, followers: set },
         1 => Step::Elect { a, set },
         2 => Step::StepDown { a },
         3 => Step::Hears { a, b },
@@ -124,7 +124,7 @@ mod tests {
     #[test]
     fn the_table_is_the_rulings_table() {
         let rulings = [
-            0x1ffc, 0x1ff4, 0x1ffc, 0x1ff8, 0x1ff8, 0x1ff8, 0x018c, 0x1ffc, 0x1ffc, 0x1ffc, 0x01ec,
+            0x1ff4, 0x1ff4, 0x1ffc, 0x1ff8, 0x1ff8, 0x1ff8, 0x018c, 0x1ffc, 0x1ffc, 0x1ffc, 0x01ec,
             0x01ec, 0x1e14, 0x1ffe, 0x1ffc, 0x1e0c, 0x1ffc,
         ];
         assert_eq!(MUST_BE_ZERO, rulings);
@@ -143,7 +143,11 @@ mod tests {
     }
 
     #[test]
-    fn kind_6_and_kinds_14_to_16_use_these_fields_alone() {
+    fn kinds_0_6_and_14_to_16_use_these_fields_alone() {
+        let step = Step::Start { servers: 7, followers: 0x86 };
+        assert_eq!(read_line(b"00070086000000000000000000"), Ok(step));
+        let step = Step::Start { servers: 3, followers: 0 };
+        assert_eq!(read_line(b"00030000000000000000000000"), Ok(step));
         let client = Time { p: 0x506, l: 0x708 };
         let step = Step::Writes { a: 1, key: 2, value: 0x304, client };
         assert_eq!(read_line(b"06010000020304000005060708"), Ok(step));
@@ -153,7 +157,8 @@ mod tests {
         assert_eq!(read_line(b"0f010000ff0304050600000000"), Ok(step));
         let write = vec![1, 4, 5, 6, 9, 10, 11, 12];
         let newest = vec![1, 4, 5, 6, 7, 8];
-        for (kind, used) in [(6, write), (14, vec![1]), (15, newest), (16, vec![1])] {
+        let start = vec![1, 3];
+        for (kind, used) in [(0, start), (6, write), (14, vec![1]), (15, newest), (16, vec![1])] {
             for byte in 1..FRAME {
                 let mut line = [0; LINE];
                 let mut frame = [0; FRAME];

@@ -1,7 +1,7 @@
 //! One small replica set that can be run: the cluster record, its steps and what comes back; the
 //! seventeen kinds are in `kinds.rs`, what refuses them is in `conditions.rs`, and what servers
-//! report to each other is in `reports.rs`. Written from document 01, requests [1], [3], [5], [7] and
-//! [9] of document 02 and the rulings alone; `plain.rs` runs it over lines and `sessions.rs` steers by
+//! report to each other is in `reports.rs`. Written from document 01, requests [1], [3], [5], [7], [9]
+//! and [11] of document 02 and the rulings alone; `plain.rs` runs it over lines and `sessions.rs` steers by
 //! it. Record-level tests are in `model_tests.rs`.
 
 pub use self::conditions::{CONDITIONS, Condition};
@@ -13,6 +13,8 @@ use self::reports::{Note, Notes, Queue};
 
 /// The most servers a cluster has, and the number of places in the record.
 pub const SERVERS: usize = 7;
+/// The fewest servers that vote.
+pub const FEWEST_VOTERS: usize = 2;
 /// The most entries a log keeps.
 pub const ENTRIES: usize = 128;
 /// The highest position that can be asked for, noted and reported.
@@ -73,6 +75,8 @@ pub struct Server {
 #[derive(Clone, Copy, PartialEq, Eq, Debug)]
 pub struct Cluster {
     pub count: usize,
+    /// A set, in which bit i is server i: they copy as all do, but have no vote.
+    pub followers: u8,
     pub servers: [Server; SERVERS],
 }
 
@@ -80,7 +84,7 @@ pub struct Cluster {
 /// a time; zero is none.
 #[derive(Clone, Copy, PartialEq, Eq, Debug)]
 pub enum Step {
-    Start { servers: u8 },
+    Start { servers: u8, followers: u8 },
     Elect { a: u8, set: u8 },
     StepDown { a: u8 },
     Hears { a: u8, b: u8 },
@@ -304,8 +308,9 @@ impl Step {
 /// What the steps share.
 impl Cluster {
     /// The record before the first start.
-    pub const ZERO: Cluster = Cluster { count: 0, servers: [Server::ZERO; SERVERS] };
+    pub const ZERO: Cluster = Cluster { count: 0, followers: 0, servers: [Server::ZERO; SERVERS] };
 
+    /// Without followers.
     fn fresh(count: usize) -> Cluster {
         let mut cluster = Cluster { count, ..Cluster::ZERO };
         cluster.servers[..count].fill(Server::FRESH);
@@ -315,6 +320,9 @@ impl Cluster {
     pub fn well_formed(&self) -> bool {
         let counted = || self.counted().iter().enumerate();
         (2..=SERVERS).contains(&self.count)
+            && self.followers >> self.count == 0
+            && self.voters() >= FEWEST_VOTERS
+            && !counted().any(|(number, server)| self.is_follower(number) && server.role == Primary)
             && counted().all(|(number, server)| server.well_formed(number, self.count))
             && self.servers[self.count..].iter().all(|place| *place == Server::ZERO)
     }
@@ -324,8 +332,19 @@ impl Cluster {
         &self.servers[..self.count]
     }
 
+    /// Of a server below the count.
+    pub fn is_follower(&self, number: usize) -> bool {
+        self.followers >> number & 1 == 1
+    }
+
+    /// How many vote; only where every follower is below the count.
+    pub fn voters(&self) -> usize {
+        self.count - self.followers.count_ones() as usize
+    }
+
+    /// Whether so many voters are more than half of them.
     pub fn is_majority(&self, members: usize) -> bool {
-        2 * members > self.count
+        2 * members > self.voters()
     }
 
     fn server(&mut self, a: usize) -> Result<&mut Server, Condition> {
@@ -343,11 +362,12 @@ impl Cluster {
     }
 
     /// Whether a position above a's commit point and inside its log passes at a, which counts
-    /// itself and whom its notes say so of; what it has noted of itself isn't looked at.
+    /// itself and whom its notes say so of, followers left out; what it has noted of itself isn't
+    /// looked at.
     fn passes(&self, a: usize, position: usize) -> bool {
         let Server { term, log, notes, .. } = &self.servers[a];
         let backs = |b: usize| b == a || notes[b].reaches(*term, position);
-        let backers = (0..self.count).filter(|&b| backs(b)).count();
+        let backers = (0..self.count).filter(|&b| !self.is_follower(b) && backs(b)).count();
         log.entries[position - 1].term == *term && self.is_majority(backers)
     }
 }

@@ -1,7 +1,8 @@
 //! Record-level tests of the model: document 01's twelve facts, and the cases that no lines reach
 //! from a fresh start. Those of kinds 14 and 15 are in `newest_tests.rs`, those of reports in
 //! `reports_tests.rs`, those of clients' times in `phones_tests.rs`, those of full logs and the highest
-//! position in `limits_tests.rs`, those of the saved form in `saved_tests.rs`.
+//! position in `limits_tests.rs`, those of followers in `followers_tests.rs`, those of the saved form in
+//! `saved_tests.rs`.
 
 use super::*;
 use crate::saved::{Refusal, save};
@@ -290,14 +291,15 @@ fn a_first_entry_may_be_at_the_zero_time() {
 
 #[test]
 fn a_refused_start_leaves_any_record() {
-    let mut odd = Cluster { count: usize::MAX, servers: [primary(0, &[3]); SERVERS] };
+    let servers = [primary(0, &[3]); SERVERS];
+    let mut odd = Cluster { count: usize::MAX, followers: 255, servers };
     odd.servers[2].log.length = usize::MAX;
     for servers in [0, 1, 8, 255] {
         let mut after = odd;
-        let answer = step(&mut after, &Step::Start { servers });
+        let answer = step(&mut after, &Step::Start { servers, followers: 0 });
         assert_eq!((answer.map_err(Condition::number), after), (Err(3), odd));
     }
-    assert_eq!(step(&mut odd, &Step::Start { servers: 7 }), Ok(Numbers::NONE));
+    assert_eq!(step(&mut odd, &Step::Start { servers: 7, followers: 0 }), Ok(Numbers::NONE));
     assert_eq!(odd, Cluster::fresh(7));
 }
 
@@ -413,6 +415,8 @@ fn every_step_from_an_odd_record_keeps_it_well_formed() {
     }
 }
 
+#[path = "followers_tests.rs"]
+mod followers;
 #[path = "limits_tests.rs"]
 mod limits;
 #[path = "newest_tests.rs"]

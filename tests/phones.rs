@@ -74,13 +74,13 @@ impl Run {
 
     /// A phone that has written at one primary goes to the next, whose clock may be behind.
     fn roam(&mut self) {
-        let old = self.elect_of(self.everyone());
+        let old = self.elect_of(self.electors());
         for _ in 0..self.prng.below(4) {
             self.offer(Step::WallClock { a: old });
         }
         self.offer_entry(old);
         let seen = self.at(old).cluster_time;
-        let new = self.elect_of(self.everyone() & !(1 << old));
+        let new = self.elect_of(self.electors() & !(1 << old));
         self.offer(Step::WritesNothing { a: new });
         let write = self.write_for(new, seen);
         self.offer(write);
@@ -101,7 +101,7 @@ impl Run {
         if self.prng.one_in(2) {
             self.offer(Step::ClocksAgree);
         }
-        let primary = self.elect_of(self.everyone());
+        let primary = self.elect_of(self.electors());
         if primary != a {
             self.offer(Step::Hears { a: primary, b: a });
         }
@@ -113,7 +113,7 @@ impl Run {
 
     /// A phone brings the cluster time to its last l, where only a later p helps on.
     fn stick(&mut self) {
-        let a = self.elect_of(self.everyone());
+        let a = self.elect_of(self.electors());
         let p = self.at(a).cluster_time.p.max(self.at(a).wall_clock);
         self.say_write(a, Time { p, l: LAST });
         self.offer_entry(a);
@@ -134,7 +134,7 @@ impl Run {
     /// The last entry that a log takes brings its cluster time to the last l; phones still come, and
     /// another primary hears of it all.
     fn last_place(&mut self) {
-        let old = self.elect_of(self.everyone());
+        let old = self.elect_of(self.electors());
         for _ in self.at(old).log.length..ENTRIES - 1 {
             self.say_write(old, Time::ZERO);
         }
@@ -149,7 +149,7 @@ impl Run {
             let client = self.ahead(old, by);
             self.say_write(old, client);
         }
-        let new = self.elect_of(self.everyone() & !(1 << old));
+        let new = self.elect_of(self.electors() & !(1 << old));
         self.offer(Step::Hears { a: new, b: old });
         self.offer_entry(new);
         self.offer(Step::WritesNothing { a: new });
@@ -163,7 +163,7 @@ impl Run {
             return;
         }
         self.promote(a);
-        let new = self.elect_of(self.everyone() & !(1 << a));
+        let new = self.elect_of(self.electors() & !(1 << a));
         for client in [Time { p: LAST, l: 7 }, Time { p: LAST, l: LAST }] {
             self.say_write(a, client);
         }

@@ -69,6 +69,7 @@ fn the_samples() {
         (include_str!("../samples/reports"), include_str!("../samples/reports.answers")),
         (include_str!("../samples/phones"), include_str!("../samples/phones.answers")),
         (include_str!("../samples/may"), include_str!("../samples/may.answers")),
+        (include_str!("../samples/followers"), include_str!("../samples/followers.answers")),
     ];
     for (steps, printed) in samples {
         assert_eq!(answers(steps.as_bytes()), printed);
@@ -164,6 +165,41 @@ fn a_session_of_a_misleading_note() {
     ]);
 }
 
+/// A laptop at the meet copies, is asked for a majority read, passes on what it is told and is in no
+/// election; a note of it covers nothing, and a start without followers makes it a voter.
+#[test]
+fn a_session_of_followers() {
+    is_answered(&[
+        ("00040008000000000000000000", "000000000000000000"),
+        ("01000003000000000000000000", "000000000100000000"),
+        ("06000000050029000000000000", "000001000100010000"),
+        ("04030000000000000000000000", "000001000000000000"),
+        ("10000000000000000000000000", "000000000000000000"),
+        ("07000000000000000000000000", "050000000000000000"),
+        ("0a030000050000000000010000", "000029000000010000"),
+        ("0b030000050000000000010000", "080000000000000000"),
+        ("0103000b000000000000000000", "030000000000000000"),
+        ("01030003000000000000000000", "030000000000000000"),
+        ("0100000b000000000000000000", "030000000000000000"),
+        ("01000009000000000000000000", "030000000000000000"),
+        ("01000001000000000000000000", "050000000000000000"),
+        ("06030000050029000000000000", "040000000000000000"),
+        ("07030000000000000000000000", "040000000000000000"),
+        ("04010300000000000000000000", "000001000000000000"),
+        ("10030000000000000000000000", "000000000000000000"),
+        ("10000000000000000000000000", "000000000000000000"),
+        ("07000000000000000000000000", "000001000000000000"),
+        ("03030000000000000000000000", "000000000000000000"),
+        ("0b030000050000000000010000", "000029000000010000"),
+        ("00040018000000000000000000", "030000000000000000"),
+        ("0004000e000000000000000000", "030000000000000000"),
+        ("00040100000000000000000000", "010000000000000000"),
+        ("00040000000000000000000000", "000000000000000000"),
+        ("01000009000000000000000000", "050000000000000000"),
+        ("0103000b000000000000000000", "000000000100000000"),
+    ]);
+}
+
 /// A step and its answer, both filled up with zeros.
 fn line(step: &str, answer: &str) -> (String, String) {
     (format!("{step:0<26}"), format!("{answer:0<18}"))
@@ -251,8 +287,10 @@ fn a_record_is_loaded_first_and_saved_last_or_refused() {
     const TICK: &str = "08010000000000000000000000\n";
     const DONE: &str = "000000000000000000\n";
     let server = |wall_clock| format!("0100000000000000000000{wall_clock:04x}00000000\n");
-    let record = |wall_clock| format!("000202\n{}{}", server(1), server(wall_clock));
-    let of_edition_1 = |wall_clock| record(wall_clock).replacen("0002", "0001", 1);
+    let record = |wall_clock| format!("00030200\n{}{}", server(1), server(wall_clock));
+    let before = |number: u8, wall_clock| {
+        record(wall_clock).replacen("00030200", &format!("00{number:02x}02"), 1)
+    };
     let file = std::env::temp_dir().join(format!("plain-tests-{}", std::process::id()));
     let file = file.to_str().unwrap();
     // How a run ends that may load a file and that saves to it, its answers, and what the file holds.
@@ -271,29 +309,49 @@ fn a_record_is_loaded_first_and_saved_last_or_refused() {
     assert_eq!(ran(false, "old", &begins), ended(&DONE.repeat(2), &record(2)));
     assert_eq!(ran(true, &record(1), TICK), ended(DONE, &record(2)));
     assert_eq!(ran(true, &record(7), ""), ended("", &record(7)));
-    assert_eq!(ran(true, &of_edition_1(1), TICK), ended(DONE, &record(2)));
-    assert_eq!(ran(true, &of_edition_1(7), ""), ended("", &record(7)));
+    for number in [1, 2] {
+        assert_eq!(ran(true, &before(number, 1), TICK), ended(DONE, &record(2)));
+        assert_eq!(ran(true, &before(number, 7), ""), ended("", &record(7)));
+        let (wrong, unnamed) = (before(number, 0), before(number, 1).replacen("02\n", "0200\n", 1));
+        assert_eq!(ran(true, &wrong, &begins), refused(2, "", &wrong));
+        assert_eq!(ran(true, &unnamed, &begins), refused(1, "", &unnamed));
+    }
     assert_eq!(ran(true, "old", &begins), refused(1, "", "old"));
     assert_eq!(ran(true, &record(0), &begins), refused(2, "", &record(0)));
-    assert_eq!(ran(true, &of_edition_1(0), &begins), refused(2, "", &of_edition_1(0)));
+    let alone = record(1).replacen("00030200", "00030202", 1);
+    assert_eq!(ran(true, &alone, &begins), refused(2, "", &alone));
     assert_eq!(ran(false, "old", TICK), refused(2, "020000000000000000\n", "old"));
     fs::remove_file(file).unwrap();
 }
 
-/// What the program of edition 1 saved, and a session that goes on from there.
-const STORED: [(&str, &str); 5] = [
+/// What the programs of editions 1 and 2 saved, and a session that goes on from there.
+const STORED: [(&str, &str); 10] = [
     (include_str!("editions/1/fresh.saved"), include_str!("editions/1/fresh.steps")),
     (include_str!("editions/1/two.saved"), include_str!("editions/1/two.steps")),
     (include_str!("editions/1/split.saved"), include_str!("editions/1/split.steps")),
     (include_str!("editions/1/full.saved"), include_str!("editions/1/full.steps")),
     (include_str!("editions/1/far.saved"), include_str!("editions/1/far.steps")),
+    (include_str!("editions/2/fresh.saved"), include_str!("editions/2/fresh.steps")),
+    (include_str!("editions/2/seven.saved"), include_str!("editions/2/seven.steps")),
+    (include_str!("editions/2/split.saved"), include_str!("editions/2/split.steps")),
+    (include_str!("editions/2/far.saved"), include_str!("editions/2/far.steps")),
+    (include_str!("editions/2/busy.saved"), include_str!("editions/2/busy.steps")),
 ];
 
-/// What some stored server has, so that a program which can't load it is seen.
-const STORED_SORTS: [fn(&Server) -> bool; 8] = [
-    |server| server.log.length == 32,
-    |server| server.notes.iter().any(|note| note.length == 32),
-    |server| server.queue.reports.iter().any(|report| report.note.length == 32),
+/// A text of edition 1 or 2, of a record that is then saved in edition 3.
+fn saved_anew(text: &str) -> String {
+    let (first, rest) = text.split_once('\n').unwrap();
+    let count = first.strip_prefix("0001").or(first.strip_prefix("0002")).unwrap();
+    format!("0003{count}00\n{rest}")
+}
+
+/// What some stored server of editions 1 and 2 has, so that a program which can't load it is seen.
+const STORED_LENGTHS: [fn(&Server, usize) -> bool; 3] = [
+    |server, most| server.log.length == most,
+    |server, most| server.notes.iter().any(|note| note.length == most),
+    |server, most| server.queue.reports.iter().any(|report| report.note.length == most),
+];
+const STORED_SORTS: [fn(&Server) -> bool; 5] = [
     |server| server.queue.is_full(),
     |server| server.source.is_some(),
     |server| server.role == Role::Primary,
@@ -302,21 +360,27 @@ const STORED_SORTS: [fn(&Server) -> bool; 8] = [
 ];
 
 #[test]
-fn what_edition_1_saved_is_carried_on() {
-    let mut servers = Vec::new();
+fn what_editions_1_and_2_saved_is_carried_on() {
+    let mut servers = [Vec::new(), Vec::new()];
     for (saved, steps) in STORED {
         let record = load(saved.as_bytes()).expect(saved);
-        assert_eq!(save(&record), Ok(saved.replacen("0001", "0002", 1).into_bytes()));
-        servers.extend_from_slice(record.counted());
+        assert_eq!(record.followers, 0);
+        assert_eq!(save(&record), Ok(saved_anew(saved).into_bytes()));
+        servers[usize::from(saved.starts_with("0002"))].extend_from_slice(record.counted());
         let carried = answers_from(record, step, BLOCK, steps.as_bytes());
         assert!(carried.0.lines().all(|answer| answer.starts_with("00")), "{}", carried.0);
         assert_eq!(answers_from(record, trusting_step, BLOCK, steps.as_bytes()), carried);
         let text = save(&carried.1).unwrap();
-        assert!(text.starts_with(b"0002"));
+        assert!(text.starts_with(b"0003"));
         assert_eq!(load(&text), Ok(carried.1));
     }
-    assert!(STORED_SORTS.iter().all(|is_sort| servers.iter().any(is_sort)));
-    assert_eq!(STORED.map(|(saved, _)| load(saved.as_bytes()).unwrap().count), [2, 2, 3, 7, 4]);
+    for (servers, most) in servers.iter().zip([32, 128]) {
+        assert!(STORED_SORTS.iter().all(|is_sort| servers.iter().any(is_sort)));
+        let has = |is_long: &fn(&Server, usize) -> bool| servers.iter().any(|s| is_long(s, most));
+        assert!(STORED_LENGTHS.iter().all(has));
+    }
+    let counts = STORED.map(|(saved, _)| load(saved.as_bytes()).unwrap().count);
+    assert_eq!(counts, [2, 2, 3, 7, 4, 3, 7, 6, 4, 5]);
 }
 
 /// The values of the committed log of a run, and how many starts there were.

@@ -34,8 +34,14 @@ impl Run {
     }
 
     /// All servers but these, in any order.
-    fn others(&mut self, these: &[u8]) -> Vec<u8> {
+    pub(super) fn others(&mut self, these: &[u8]) -> Vec<u8> {
         self.shuffled().into_iter().filter(|a| !these.contains(a)).collect()
+    }
+
+    /// All voters but these, in any order.
+    pub(super) fn peers(&mut self, these: &[u8]) -> Vec<u8> {
+        let electors = self.electors();
+        self.others(these).into_iter().filter(|a| electors >> a & 1 == 1).collect()
     }
 
     /// Elects a by these, after it heard of their latest term.
@@ -47,14 +53,14 @@ impl Run {
         self.offer(Step::Elect { a, set });
     }
 
-    fn some_entry(&mut self, a: u8) {
+    pub(super) fn some_entry(&mut self, a: u8) {
         self.offer_entry(a);
         self.write_some(a);
     }
 
     /// Servers come after one another in a row, and their reports go back along it.
     fn row(&mut self) {
-        let first = self.elect_of(self.everyone());
+        let first = self.elect_of(self.electors());
         self.some_entry(first);
         let mut row = vec![first];
         for a in self.others(&[first]) {
@@ -74,8 +80,8 @@ impl Run {
     /// More reports than a queue holds: the last that it loses is of one that may have to roll back
     /// and then has a report to pass on.
     fn flood(&mut self) {
-        let old = self.elect_of(self.everyone());
-        let rest = self.everyone() & !(1 << old);
+        let old = self.elect_of(self.electors());
+        let rest = self.electors() & !(1 << old);
         let split = self.cluster.is_majority(rest.count_ones() as usize);
         let new = if split { self.elect_of(rest) } else { old };
         self.some_entry(old);
@@ -103,22 +109,21 @@ impl Run {
 
     /// Two servers come after each other, so that reports go round.
     fn circle(&mut self) {
-        let a = self.elect_of(self.everyone());
+        let a = self.elect_of(self.electors());
         self.some_entry(a);
-        let others = self.others(&[a]);
-        let b = others[0];
+        let b = self.peers(&[a])[0];
         self.come_after(b, a);
-        let set = self.voters(b, self.everyone());
+        let set = self.voters(b, self.electors());
         self.offer(Step::Elect { a: b, set });
         self.some_entry(b);
         self.come_after(a, b);
-        for &c in &others[1..] {
+        for c in self.others(&[a, b]) {
             self.come_after(c, b);
         }
         if self.prng.one_in(2) {
             self.offer(Step::StepDown { a: b });
         } else if self.prng.one_in(2) {
-            self.elect_of(self.everyone());
+            self.elect_of(self.electors());
         }
         for _ in 0..3 {
             self.take_in(b);
@@ -130,17 +135,17 @@ impl Run {
 
     /// A report waits on its way while its server sends a newer one straight to the primary.
     fn detour(&mut self) {
-        let primary = self.elect_of(self.everyone());
+        let primary = self.elect_of(self.electors());
         self.some_entry(primary);
         let others = self.others(&[primary]);
         let (between, late) = (others[0], others[others.len() - 1]);
         self.come_after(between, primary);
         if self.prng.one_in(2) {
-            self.elect_by(primary, self.everyone() & !(1 << between));
+            self.elect_by(primary, self.electors() & !(1 << between));
         }
         self.come_after(late, between);
         if self.prng.one_in(2) {
-            self.elect_of(self.everyone());
+            self.elect_of(self.electors());
         }
         self.some_entry(primary);
         self.come_after(late, primary);
@@ -154,11 +159,11 @@ impl Run {
     /// Servers in a primary's term come after one with a longer log of an older term, which passes
     /// their reports on to that primary.
     fn mislead(&mut self) {
-        let right = self.elect_of(self.everyone());
+        let right = self.elect_of(self.electors());
         self.some_entry(right);
-        let others = self.others(&[right]);
-        let wrong = others[0];
-        let [without_right, without_wrong] = [right, wrong].map(|a| self.everyone() & !(1 << a));
+        let wrong = self.peers(&[right])[0];
+        let others = self.others(&[right, wrong]);
+        let [without_right, without_wrong] = [right, wrong].map(|a| self.electors() & !(1 << a));
         self.come_after(wrong, right);
         self.elect_by(wrong, without_right);
         for _ in 0..4 {
@@ -167,7 +172,7 @@ impl Run {
         for times in 0..1 + self.prng.below(2) {
             self.elect_by(right, without_wrong);
             self.offer_entry(right);
-            for &a in others[1..].iter().filter(|_| times == 0) {
+            for &a in others.iter().filter(|_| times == 0) {
                 let b = self.prng.pick(&[right, wrong, wrong, wrong]);
                 self.come_after(a, b);
             }
@@ -180,13 +185,12 @@ impl Run {
 
     /// A primary hears of its entries from servers that got them in a later term.
     fn outlast(&mut self) {
-        let old = self.elect_of(self.everyone());
+        let old = self.elect_of(self.electors());
         self.some_entry(old);
-        let others = self.others(&[old]);
-        let new = others[0];
+        let new = self.peers(&[old])[0];
         self.come_after(new, old);
-        self.elect_by(new, self.everyone() & !(1 << old));
-        for &a in &others[1..] {
+        self.elect_by(new, self.electors() & !(1 << old));
+        for a in self.others(&[old, new]) {
             self.come_after(a, new);
         }
         self.offer(Step::StepDown { a: new });
@@ -198,23 +202,23 @@ impl Run {
     /// A primary hears of its entries from a server that was in its term until it got them: in that
     /// term it would make up the majority. Fewer than five can't elect the next without both.
     fn raise(&mut self) {
-        if self.count() < 5 {
+        if self.cluster.voters() < 5 {
             return self.outlast();
         }
-        let everyone = self.everyone();
-        let raised = self.elect_of(everyone);
+        let electors = self.electors();
+        let raised = self.elect_of(electors);
         if self.prng.one_in(2) {
             self.offer_entry(raised);
         }
-        let old = self.elect_of(everyone & !(1 << raised));
+        let old = self.elect_of(electors & !(1 << raised));
         self.some_entry(old);
         self.offer(Step::Hears { a: raised, b: old });
-        let others = self.others(&[old, raised]);
-        for &a in &others[..self.count() / 2 - 1] {
+        let peers = self.peers(&[old, raised]);
+        for &a in &peers[..self.cluster.voters() / 2 - 1] {
             self.come_after(a, old);
         }
-        let new = others[0];
-        self.elect_by(new, everyone & !(1 << old | 1 << raised));
+        let new = peers[0];
+        self.elect_by(new, electors & !(1 << old | 1 << raised));
         self.come_after(raised, new);
         self.offer(Step::StepDown { a: new });
         self.take_in(new);

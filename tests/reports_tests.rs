@@ -110,7 +110,7 @@ fn the_zero_server_and_the_fresh_cluster_have_none() {
         assert_eq!((server.queue, server.source), (Queue::EMPTY, None));
     }
     let mut started = cluster(&busy());
-    assert_eq!(step(&mut started, &Step::Start { servers: 3 }), Ok(Numbers::NONE));
+    assert_eq!(step(&mut started, &Step::Start { servers: 3, followers: 0 }), Ok(Numbers::NONE));
     assert_eq!(started, Cluster::fresh(3));
 }
 

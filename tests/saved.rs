@@ -23,31 +23,36 @@ impl Refusal {
     }
 }
 
-/// What is allowed in a text of an edition, whatever later ones allow; the frames of all editions
-/// are the same but for its number.
+/// What is allowed in a text of an edition, whatever later ones allow; only the first frames of two
+/// editions differ.
 pub struct Edition {
     number: u8,
     /// The most entries of a log.
     entries: usize,
     /// The highest position in a note or a report.
     highest_position: usize,
+    /// Whether its first frame tells the followers; without that there are none.
+    tells_followers: bool,
 }
 
 /// The editions that can be read, by their numbers.
-pub const EDITIONS: [Edition; 2] = [
-    Edition { number: 1, entries: 32, highest_position: 32 },
-    Edition { number: 2, entries: 128, highest_position: 128 },
+pub const EDITIONS: [Edition; 3] = [
+    Edition { number: 1, entries: 32, highest_position: 32, tells_followers: false },
+    Edition { number: 2, entries: 128, highest_position: 128, tells_followers: false },
+    Edition { number: 3, entries: 128, highest_position: 128, tells_followers: true },
 ];
 /// The edition that is written.
-const WRITTEN: &Edition = &EDITIONS[1];
+const WRITTEN: &Edition = &EDITIONS[2];
 
 impl Edition {
     fn allows(&self, record: &Cluster) -> bool {
-        record.counted().iter().all(|Server { log, notes, queue, .. }| {
-            let reports = queue.reports[..queue.length].iter().map(|report| report.note);
-            let mut told = notes.iter().copied().chain(reports);
-            log.length <= self.entries && told.all(|note| note.length <= self.highest_position)
-        })
+        let mut servers = record.counted().iter();
+        (self.tells_followers || record.followers == 0)
+            && servers.all(|Server { log, notes, queue, .. }| {
+                let reports = queue.reports[..queue.length].iter().map(|report| report.note);
+                let mut told = notes.iter().copied().chain(reports);
+                log.length <= self.entries && told.all(|note| note.length <= self.highest_position)
+            })
     }
 }
 
@@ -59,7 +64,6 @@ const NOTE: u8 = 3;
 const REPORT: u8 = 4;
 
 // What follows that byte.
-type FirstFields = [u8; 2];
 type ServerFields = [u8; 16];
 type EntryFields = [u8; 9];
 /// Whose it is or whom it is about, and the note.
@@ -76,7 +80,9 @@ pub fn save_as(edition: &Edition, cluster: &Cluster) -> Result<Vec<u8>, Refusal>
         return Err(Refusal::Value);
     }
     let mut text = Vec::new();
-    put_frame(&mut text, FIRST, &[&[edition.number, cluster.count as u8]]);
+    let followers = [cluster.followers];
+    let told = if edition.tells_followers { &followers[..] } else { &[] };
+    put_frame(&mut text, FIRST, &[&[edition.number, cluster.count as u8], told]);
     for server in cluster.counted() {
         put_server(&mut text, server);
     }
@@ -130,8 +136,8 @@ pub fn load(text: &[u8]) -> Result<Cluster, Refusal> {
 
 /// The same by a reader that knows these editions alone.
 pub fn load_knowing(known: &[Edition], text: &[u8]) -> Result<Cluster, Refusal> {
-    let (edition, told) = read_shape(known, text).ok_or(Refusal::Shape)?;
-    record_of(&told).filter(|record| edition.allows(record)).ok_or(Refusal::Value)
+    let (edition, followers, told) = read_shape(known, text).ok_or(Refusal::Shape)?;
+    record_of(followers, &told).filter(|record| edition.allows(record)).ok_or(Refusal::Value)
 }
 
 /// Whether a text is the record's in some edition, which then is the text's own.
@@ -148,12 +154,12 @@ struct Told {
     reports: Vec<NoteFields>,
 }
 
-fn read_shape<'a>(known: &'a [Edition], text: &[u8]) -> Option<(&'a Edition, Vec<Told>)> {
+/// The edition of a text, its set of followers and what it tells of the servers.
+fn read_shape<'a>(known: &'a [Edition], text: &[u8]) -> Option<(&'a Edition, u8, Vec<Told>)> {
     let mut text = Unread(text.iter());
-    let [number, count]: FirstFields = text.frame(FIRST)?;
-    let edition = known.iter().find(|edition| edition.number == number)?;
+    let (edition, count, followers) = text.first(known)?;
     let told: Option<Vec<Told>> = (0..count).map(|_| text.server()).collect();
-    if text.0.next().is_some() { None } else { Some((edition, told?)) }
+    if text.0.next().is_some() { None } else { Some((edition, followers, told?)) }
 }
 
 /// The characters of a text that nothing has been made of yet.
@@ -172,8 +178,20 @@ impl Unread<'_> {
         for field in &mut fields {
             *field = self.byte()?;
         }
-        let ended = self.0.next() == Some(&b'\n');
-        (found == sort && ended).then_some(fields)
+        (found == sort && self.line_ends()).then_some(fields)
+    }
+
+    fn line_ends(&mut self) -> bool {
+        self.0.next() == Some(&b'\n')
+    }
+
+    /// The first line, which is as long as its edition says.
+    fn first<'a>(&mut self, known: &'a [Edition]) -> Option<(&'a Edition, u8, u8)> {
+        let (sort, number) = (self.byte()?, self.byte()?);
+        let edition = known.iter().find(|edition| edition.number == number)?;
+        let count = self.byte()?;
+        let followers = if edition.tells_followers { self.byte()? } else { 0 };
+        (sort == FIRST && self.line_ends()).then_some((edition, count, followers))
     }
 
     fn frames<const N: usize>(&mut self, sort: u8, count: usize) -> Option<Vec<[u8; N]>> {
@@ -197,8 +215,8 @@ fn numbers<const N: usize>(fields: &[u8]) -> [u16; N] {
     std::array::from_fn(|i| u16::from_be_bytes([fields[2 * i], fields[2 * i + 1]]))
 }
 
-fn record_of(told: &[Told]) -> Option<Cluster> {
-    let mut cluster = Cluster { count: told.len(), ..Cluster::ZERO };
+fn record_of(followers: u8, told: &[Told]) -> Option<Cluster> {
+    let mut cluster = Cluster { count: told.len(), followers, ..Cluster::ZERO };
     for (place, told) in cluster.servers.get_mut(..told.len())?.iter_mut().zip(told) {
         fill(place, told)?;
     }

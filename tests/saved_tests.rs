@@ -2,6 +2,7 @@
 //! that no record has. Texts that break the shape are in `shapes_tests.rs`, what one edition has and
 //! another hasn't is in `editions_tests.rs`.
 
+use super::followers::{following, may_follow};
 use super::reported::{busy, report, told};
 use super::*;
 use crate::saved::{is_form_of, load, save};
@@ -32,7 +33,7 @@ fn text<S: AsRef<str>>(lines: &[S]) -> String {
 
 /// A text with every sort of frame, at least two of those that have neighbours.
 const LINES: [&str; 11] = [
-    "00 02 03",
+    "00 03 03 04",
     "01 0002 02 02 02 01 0105 0001 0307 0402 0206",
     "02 0002 05 1029 0102 0000",
     "02 0103 ff 0000 0402 0201",
@@ -66,7 +67,8 @@ fn the_example_line_by_line() {
     let writes = Step::Writes { a: 0, key: 5, value: 41, client: Time::ZERO };
     let pulls = Step::Pulls { a: 1, b: 0 };
     let elects = Step::Elect { a: 0, set: 3 };
-    for taken in [Step::Start { servers: 3 }, elects, writes, pulls, Step::TakesReport { a: 0 }] {
+    let start = Step::Start { servers: 3, followers: 0 };
+    for taken in [start, elects, writes, pulls, Step::TakesReport { a: 0 }] {
         step(&mut record, &taken).unwrap();
     }
     assert_eq!(example().lines().count(), 7);
@@ -88,16 +90,25 @@ fn each_byte_has_its_field() {
     let mut shorter = Server { term: 2, source: Some(0), ..Server::FRESH };
     shorter.log.push(first);
     shorter.cluster_time = time(0x102, 0);
-    let record = cluster(&[told(noting(longer, &notes), &reports), shorter, Server::FRESH]);
-    assert_eq!(text_of(&record), text(&LINES));
+    let servers = [told(noting(longer, &notes), &reports), shorter, Server::FRESH];
+    assert_eq!(text_of(&following(4, &servers)), text(&LINES));
 }
 
 #[test]
-fn a_fresh_cluster_of_each_size() {
+fn a_fresh_cluster_of_each_size_with_any_followers() {
     let fresh = "0100000000000000000000000100000000\n";
     for count in 2..=SERVERS {
-        let text = format!("00020{count}\n{}", fresh.repeat(count));
-        assert_eq!(text_of(&Cluster::fresh(count)), text);
+        for followers in 0..=255 {
+            let text = format!("00030{count}{followers:02x}\n{}", fresh.repeat(count));
+            if may_follow(count, followers) {
+                assert_eq!(
+                    text_of(&following(followers, &[Server::FRESH; SERVERS][..count])),
+                    text
+                );
+            } else {
+                assert_eq!(refused(text), 2);
+            }
+        }
     }
 }
 
@@ -121,7 +132,7 @@ fn full(most: usize) -> Cluster {
 fn seven_full_servers() {
     let text = text_of(&full(128));
     assert_eq!(text.lines().count(), 1 + 7 * (1 + 128 + 7 + 8));
-    assert_eq!(text.len(), 7 + 7 * (35 + 128 * 21 + 7 * 17 + 8 * 17));
+    assert_eq!(text.len(), 9 + 7 * (35 + 128 * 21 + 7 * 17 + 8 * 17));
 }
 
 #[test]
@@ -129,13 +140,28 @@ fn odd_records_and_busy_ones() {
     text_of(&cluster(&busy()));
     for a in odd_servers() {
         for b in odd_servers() {
-            text_of(&cluster(&[a, b, coming_after(0, a)]));
+            let servers = [a, b, coming_after(0, a)];
+            text_of(&cluster(&servers));
+            for number in (0..3).filter(|&number| servers[number].role == Secondary) {
+                text_of(&following(1 << number, &servers));
+            }
         }
     }
 }
 
 /// Values that no record has, each alone; line, field and value.
 const WRONG: &[(usize, usize, &str)] = &[
+    // Followers: one that is primary, one past the count, too few voters.
+    (0, 3, "01"),
+    (0, 3, "08"),
+    (0, 3, "10"),
+    (0, 3, "40"),
+    (0, 3, "80"),
+    (0, 3, "0c"),
+    (0, 3, "84"),
+    (0, 3, "06"),
+    (0, 3, "07"),
+    (0, 3, "ff"),
     // Roles, sources, terms, commit points, wall clocks, cluster times.
     (1, 5, "02"),
     (10, 5, "ff"),
@@ -202,6 +228,8 @@ const WRONG: &[(usize, usize, &str)] = &[
 
 /// Values at the edge of what records have, each alone.
 const RIGHT: &[(usize, usize, &str)] = &[
+    (0, 3, "00"),
+    (0, 3, "02"),
     (1, 4, "00"),
     (1, 4, "03"),
     (8, 4, "03"),

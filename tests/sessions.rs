@@ -5,6 +5,7 @@
 mod climbs;
 mod diaries;
 mod draws;
+mod followers;
 mod frames;
 #[cfg(test)]
 mod histories;
@@ -193,13 +194,14 @@ impl Run {
 
     fn begin(&mut self) {
         let servers = 2 + self.prng.below(6) as u8;
-        self.say(Step::Start { servers });
+        let followers = self.some_followers(servers);
+        self.say(Step::Start { servers, followers });
     }
 
     /// A session of few servers whose logs are full before all else happens.
     fn brim(&mut self) {
         let servers = 2 + self.prng.below(2) as u8;
-        self.say(Step::Start { servers });
+        self.say(Step::Start { servers, followers: 0 });
         self.fill();
         for _ in 0..AFTER_FILLING {
             self.go_on();
@@ -228,6 +230,10 @@ impl Run {
         if self.prng.one_in(2) {
             self.relay();
         }
+        if self.has_followers() {
+            self.gate();
+            self.gate();
+        }
         while self.written < end {
             self.go_on();
         }
@@ -241,6 +247,7 @@ impl Run {
             16..=55 => self.replicate(),
             56..=65 => self.relay(),
             66..=77 => self.phones(),
+            78..=97 if self.has_followers() => self.gate(),
             _ => self.ordinary(),
         }
     }
@@ -252,7 +259,7 @@ impl Run {
         }
         let kind = self.kind();
         if matches!(kind, 2 | 6 | 7 | 14 | 15) && !self.has_primary() && !self.prng.one_in(8) {
-            self.elect_of(self.everyone());
+            self.elect_of(self.electors());
             return;
         }
         for _ in 0..6 {
@@ -279,15 +286,15 @@ impl Run {
         a
     }
 
-    /// Has all elect a, after it came after the one whom nobody is ahead of.
+    /// Has all voters elect a, one of them, after it came after the one whom nobody is ahead of.
     fn promote(&mut self, a: u8) {
-        let everyone = self.everyone();
-        let latest = self.with_most(everyone, |server| (server.log.last_term(), server.log.length));
+        let electors = self.electors();
+        let latest = self.with_most(electors, |server| (server.log.last_term(), server.log.length));
         self.offer(Step::StepDown { a });
         if latest != a {
             self.catch_up(a, latest);
         }
-        self.elect_by(a, everyone);
+        self.elect_by(a, electors);
     }
 
     fn offer_entry(&mut self, a: u8) {
@@ -350,11 +357,11 @@ impl Run {
     /// An old primary keeps writing and asking for the newest value while another wins without it;
     /// then the two sides meet.
     fn split(&mut self) {
-        let everyone = self.everyone();
-        let old = self.elect_of(everyone);
+        let electors = self.electors();
+        let old = self.elect_of(electors);
         self.write_some(old);
         self.follow(old);
-        let new = self.elect_of(everyone & !(1 << old));
+        let new = self.elect_of(electors & !(1 << old));
         self.write_some(old);
         self.write_some(new);
         self.follow(new);
@@ -377,8 +384,8 @@ impl Run {
     /// A log is filled, others come after it, and it is covered. Where a majority is there without
     /// its first primary, that one may have an entry of its own, and then it has to roll back.
     fn fill(&mut self) {
-        let old = self.elect_of(self.everyone());
-        let rest = self.everyone() & !(1 << old);
+        let old = self.elect_of(self.electors());
+        let rest = self.electors() & !(1 << old);
         let split = self.cluster.is_majority(rest.count_ones() as usize) && self.prng.one_in(2);
         let a = if split { self.elect_of(rest) } else { old };
         if split {
@@ -432,11 +439,11 @@ impl Run {
 
     /// Fills a log that is then rolled back to one with a single entry more than both have.
     fn overwrite(&mut self) {
-        let everyone = self.everyone();
-        let old = self.elect_of(everyone);
-        let latest = self.with_most(everyone, |server| server.cluster_time);
+        let electors = self.electors();
+        let old = self.elect_of(electors);
+        let latest = self.with_most(self.everyone(), |server| server.cluster_time);
         self.offer(Step::Hears { a: old, b: latest });
-        let new = self.elect_of(everyone & !(1 << old));
+        let new = self.elect_of(electors & !(1 << old));
         self.offer_entry(new);
         self.fill_up(old);
         self.offer(Step::Hears { a: old, b: new });

@@ -41,13 +41,14 @@ fn sessions(seed: u64) -> Run {
 #[test]
 fn records_on_the_way_are_loaded_as_they_were_saved() {
     let mut run = sessions(1);
-    let (mut cluster, mut seen) = (Cluster::ZERO, [0; SORTS.len()]);
+    let (mut cluster, mut seen, mut followers) = (Cluster::ZERO, [0; SORTS.len()], 0);
     for line in run.text.split(|&character| character == b'\n') {
         let _ = read_line(line).and_then(|read| step(&mut cluster, &read));
         if run.prng.one_in(4) {
             let text = save(&cluster).unwrap();
             assert_eq!(load(&text), Ok(cluster));
             try_another_digit(&mut run.prng, text);
+            followers |= cluster.followers;
             for (times, holds) in seen.iter_mut().zip(SORTS) {
                 *times += u32::from(cluster.counted().iter().any(holds));
             }
@@ -55,6 +56,7 @@ fn records_on_the_way_are_loaded_as_they_were_saved() {
     }
     assert_eq!(cluster, run.cluster);
     assert_eq!(seen.map(|times| times > 0), [true; SORTS.len()], "{seen:?}");
+    assert!(followers != 0);
 }
 
 /// How far the latest p of all is above the greatest wall clock; no entry is after its server's

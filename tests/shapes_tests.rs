@@ -31,10 +31,14 @@ fn lines_doubled_and_left_out() {
 
 #[test]
 fn the_first_line_is_a_first_frame_of_a_known_edition() {
-    let of_other_numbers = ["00 00 03", "00 03 03", "00 ff 03", "01 02 03", "04 02 03", "ff 02 03"];
-    let of_other_lengths = ["00 02", "00 03", "00", "", "00 02 03 00", "00 02 03 0", "00 02 3"];
-    for first in of_other_numbers.iter().chain(&of_other_lengths) {
-        assert_eq!(refused(text(&[&[*first], &LINES[1..]].concat())), 1, "{first}");
+    let of_other_numbers = ["00 00", "00 04", "00 ff", "01 03", "04 03", "ff 03", "01 02"];
+    let wide = of_other_numbers.map(|first| format!("{first} 03 00"));
+    let narrow = of_other_numbers.map(|first| format!("{first} 03"));
+    let of_other_lengths = ["00 03 03", "00 01 03 00", "00 02 03 00", "00 03 03 00 00"];
+    let cut = ["00 03 03 0", "00 03 3", "00 03", "00 02 03 0", "00 02 3", "00 02", "00", ""];
+    let of_other_lengths = of_other_lengths.iter().chain(&cut).copied();
+    for first in wide.iter().chain(&narrow).map(String::as_str).chain(of_other_lengths) {
+        assert_eq!(refused(text(&[&[first], &LINES[1..]].concat())), 1, "{first}");
     }
     assert_eq!(refused(text(&LINES[1..])), 1);
 }
@@ -65,7 +69,9 @@ fn upper_case_crlf_and_what_comes_after_the_end() {
     assert_eq!(refused(text.replace('\n', "\r")), 1);
     assert_eq!(refused(text.replace('\n', "\n\n")), 1);
     assert_eq!(refused("\u{feff}".to_string() + &text), 1);
-    for more in ["\n", " ", "\0", "0", "00", "000203\n", &text, LINES[10], "\u{ff}", "\r\n"] {
+    for more in
+        ["\n", " ", "\0", "0", "00", "000203\n", "00030304\n", &text, LINES[10], "\u{ff}", "\r\n"]
+    {
         assert_eq!(refused(text.clone() + more), 1, "{more:?}");
     }
 }
@@ -82,18 +88,18 @@ fn a_text_cut_anywhere() {
     assert_eq!(refused(""), 1);
 }
 
-/// Whether a field is looked at for the shape: sorts, an edition that isn't known, and what is
-/// announced.
-fn is_shape(text: &[u8], line: usize, field: usize) -> bool {
+/// Whether a field is looked at for the shape: sorts, an edition, since another isn't known or has a
+/// shorter first frame, and what is announced.
+fn is_shape(line: usize, field: usize) -> bool {
     match LINES[line].as_bytes()[1] {
-        b'0' => field != 1 || !matches!(&text[2..4], b"01" | b"02"),
+        b'0' => field < 3,
         b'1' => field < 4,
         _ => field == 0,
     }
 }
 
-/// Each byte changed to each other one: only where a digit of a value, or of the edition, becomes
-/// another digit does the shape stay, and what is then loaded has that text in its edition.
+/// Each byte changed to each other one: only where a digit of a value becomes another digit does the
+/// shape stay, and what is then loaded has that text.
 #[test]
 fn any_byte_changed() {
     let mut place = 0;
@@ -108,7 +114,7 @@ fn any_byte_changed() {
                     match load(&text) {
                         Ok(record) => assert!(is_form_of(&record, &text)),
                         Err(refusal) => {
-                            let broken = !stays || is_shape(&text, line, field);
+                            let broken = !stays || is_shape(line, field);
                             assert_eq!(refusal == Refusal::Shape, broken)
                         }
                     }
@@ -133,7 +139,7 @@ fn announcing(sort: u8, announced: usize, there: usize) -> String {
         3 => format!("03 {:02x} 0001 0001 0001", i % 256),
         _ => "04 01 0001 0001 0001".to_string(),
     };
-    let mut lines = vec!["00 02 02".to_string(), server];
+    let mut lines = vec!["00 03 02 00".to_string(), server];
     lines.extend((0..there).map(frame));
     lines.push(LINES[10].to_string());
     text(&lines)
@@ -158,7 +164,7 @@ fn as_many_frames_as_are_announced() {
 #[test]
 fn as_many_servers_as_are_announced() {
     let servers = |announced: usize, there: usize| {
-        let first = format!("00 02 {announced:02x}");
+        let first = format!("00 03 {announced:02x} 00");
         text(&[&[&first[..]], &vec![LINES[10]; there][..]].concat())
     };
     for count in [0, 1, 8, 9, 40, 254, 255] {

@@ -13,6 +13,8 @@ mod limits;
 mod retired;
 #[path = "stamps.rs"]
 mod stamps;
+#[path = "votes.rs"]
+mod votes;
 
 pub use self::stamps::Strays;
 
@@ -35,11 +37,15 @@ const DONE: Result<(), Condition> = Ok(());
 const NONE_PASSES: Result<(), Condition> = Err(NothingPasses);
 
 /// How many sights there are.
-pub const COUNT: usize =
-    SIGHTS.len() + limits::SIGHTS.len() + retired::SIGHTS.len() + stamps::SIGHTS.len();
+pub const COUNT: usize = SIGHTS.len()
+    + limits::SIGHTS.len()
+    + retired::SIGHTS.len()
+    + stamps::SIGHTS.len()
+    + votes::SIGHTS.len();
 
 pub fn sights() -> impl Iterator<Item = &'static Sight> {
-    SIGHTS.iter().chain(limits::SIGHTS).chain(retired::SIGHTS).chain(stamps::SIGHTS)
+    let of_reports_and_limits = SIGHTS.iter().chain(limits::SIGHTS);
+    of_reports_and_limits.chain(retired::SIGHTS).chain(stamps::SIGHTS).chain(votes::SIGHTS)
 }
 
 /// Those of reports, and of reads and commit points that go by them.
@@ -235,17 +241,19 @@ impl Taken<'_> {
         above.find(|&n| self.before.is_majority(backers(n)))
     }
 
-    /// The highest position that would pass if a could see into the others' logs.
+    /// The highest position that would pass if a could see into the voters' logs.
     fn held_by_most(&self) -> Option<usize> {
         let a = self.a();
         let holds = |b: &Server, n: usize| b.term == a.term && b.log.entry(n) == a.log.entry(n);
-        self.highest(|n| self.before.counted().iter().filter(|b| holds(b, n)).count())
+        let voters = || self.before.counted().iter().enumerate().filter(|(b, _)| self.votes(*b));
+        self.highest(|n| voters().filter(|(_, b)| holds(b, n)).count())
     }
 
-    /// How many back a position: a, and every other counted server of which this holds.
+    /// How many back a position: a, and every other voter of which this holds.
     fn backers(&self, backs: impl Fn(usize, &Note) -> bool) -> usize {
         let others = self.a().notes[..self.before.count].iter().enumerate();
-        1 + others.filter(|(b, note)| *b != self.number() && backs(*b, note)).count()
+        let backs = |b: usize, note: &Note| b != self.number() && self.votes(b) && backs(b, note);
+        1 + others.filter(|(b, note)| backs(*b, note)).count()
     }
 
     /// Whether the new commit point would have passed if only such servers' notes counted.

@@ -11,13 +11,15 @@ const NO_FRAME: usize = KINDS;
 
 /// For each kind, the conditions of its refusals in the order in which they are tested.
 const LISTS: [(&str, &[Condition]); ROWS] = [
-    ("start", &[StartBelow2, StartAbove7]),
+    ("start", &[StartBelow2, StartAbove7, FollowerOutside, FewVoters]),
     (
         "elect",
         &[
             NotWellFormed,
             ServerOutside,
             MemberOutside,
+            FollowerElected,
+            FollowerInSet,
             NotAMajority,
             OutsideItsSet,
             MemberTermAbove,

@@ -14,8 +14,8 @@ use Rattle.mail.specs.Reports.{zeroNote, noteOf}
 use Rattle.mail.specs.Mails.{zeroMail, noteAt, withSource}
 use Rattle.mail.specs.Order.{isUnused, isUsed, noteOk, notesOk, slotOk, queueOk, sourceOk, mailOk}
 use Rattle.cluster.specs.Servers.{mostServers, withMail, zeroServer, freshServer, zeroCluster, startedOf, freshCluster, serverAt, withServer, votedOf, electedAll, clockedOf, clocksSet, withRows, committedTo, rowedOf, rowedAll}
-use Rattle.cluster.specs.Sets.{member, membersOf, isWithin, isMajority}
-use Rattle.cluster.specs.WellFormed.{numbersOk, countedOk, zeroOk, serverOk, wellFormed}
+use Rattle.cluster.specs.Sets.{member, membersOf, isWithin, isApart, votes, voters, isMajority}
+use Rattle.cluster.specs.WellFormed.{numbersOk, countedOk, zeroOk, serverOk, sizeOk, wellFormed}
 use Rattle.apart.proofs.Things.{at, x, f, noting, server, holder, leader, covering, clocked, timed, two, F2, z, log}
 
 pub fresh-server-with-wall-clock-0 : freshServer .head .wall ≡ 1
@@ -38,11 +38,11 @@ pub started-keeps-a-counted-server : startedOf 2 0 (leader []) ≡ freshServer
 unfolding startedOf
 started-keeps-a-counted-server = refl
 
-pub fresh-one-server-too-many : serverAt (freshCluster 2) 2 ≡ zeroServer
+pub fresh-one-server-too-many : serverAt (freshCluster 2 0) 2 ≡ zeroServer
 unfolding eachFrom startedOf
 fresh-one-server-too-many = refl
 
-pub fresh-leaves-the-count : freshCluster 2 .count ≡ 2
+pub fresh-leaves-the-count : freshCluster 2 0 .count ≡ 2
 fresh-leaves-the-count = refl
 
 pub with-server-replaces-0 : serverAt (withServer F2 1 zeroServer) 0 ≡ freshServer
@@ -104,24 +104,28 @@ pub zero-without-the-time : zeroOk (server 0 false 0 0 (at 0 1) []) ≡ false
 unfolding sameTime sameEntry restZero isEmptyLog zeroOk
 zero-without-the-time = refl
 
-pub server-ok-exchanges-the-cases : serverOk 2 0 freshServer ≡ true
-unfolding rowsOk rowOk latestValue highest every isBefore sameTime sameEntry entryAt inOrder restZero logOk isUnused isUsed noteOk notesOk slotOk queueOk sourceOk mailOk numbersOk countedOk serverOk
+pub server-ok-exchanges-the-cases : serverOk 2 0 0 freshServer ≡ true
+unfolding rowsOk rowOk latestValue highest every isBefore sameTime sameEntry entryAt inOrder restZero logOk isUnused isUsed noteOk notesOk slotOk queueOk sourceOk mailOk numbersOk member countedOk serverOk
 server-ok-exchanges-the-cases = refl
 
-pub server-ok-counts-every-server : serverOk 2 2 freshServer ≡ false
+pub server-ok-counts-every-server : serverOk 2 0 2 freshServer ≡ false
 unfolding rowsOk rowOk latestValue entryAt highest every sameTime sameEntry restZero isEmptyLog zeroOk serverOk
 server-ok-counts-every-server = refl
 
-pub server-ok-without-its-mail : serverOk 2 0 (withMail freshServer (withSource zeroMail 1)) ≡ false
-unfolding rowsOk rowOk latestValue highest every isBefore sameTime sameEntry entryAt inOrder restZero logOk isUnused isUsed noteOk notesOk slotOk queueOk sourceOk mailOk numbersOk countedOk serverOk
+pub server-ok-without-its-mail : serverOk 2 0 0 (withMail freshServer (withSource zeroMail 1)) ≡ false
+unfolding rowsOk rowOk latestValue highest every isBefore sameTime sameEntry entryAt inOrder restZero logOk isUnused isUsed noteOk notesOk slotOk queueOk sourceOk mailOk numbersOk member countedOk serverOk
 server-ok-without-its-mail = refl
 
-pub well-formed-of-count-8 : wellFormed (record { count = 8; servers = replicate 7 freshServer }) ≡ false
-unfolding wellFormed
+pub a-follower-may-be-primary : serverOk 3 4 2 (leader []) ≡ false
+unfolding rowsOk rowOk latestValue highest every isBefore sameTime sameEntry entryAt inOrder restZero logOk isUnused isUsed noteOk notesOk slotOk queueOk sourceOk mailOk numbersOk member countedOk serverOk
+a-follower-may-be-primary = refl
+
+pub well-formed-of-count-8 : wellFormed (record { count = 8; followers = 0; servers = replicate 7 freshServer }) ≡ false
+unfolding sizeOk wellFormed
 well-formed-of-count-8 = refl
 
 pub well-formed-by-counted-servers : wellFormed (withServer F2 2 freshServer) ≡ false
-unfolding latestValue highest every eachFrom isBefore sameTime sameEntry entryAt inOrder restZero isEmptyLog logOk isUnused isUsed noteOk notesOk slotOk queueOk sourceOk mailOk startedOf numbersOk countedOk zeroOk rowOk rowsOk serverOk wellFormed
+unfolding latestValue highest every eachFrom isBefore sameTime sameEntry entryAt inOrder restZero isEmptyLog logOk isUnused isUsed noteOk notesOk slotOk queueOk sourceOk mailOk startedOf numbersOk countedOk zeroOk rowOk rowsOk serverOk wellFormed count member isWithin sizeOk
 well-formed-by-counted-servers = refl
 
 pub member-from-the-top : member 1 0 ≡ true
@@ -147,6 +151,31 @@ within-takes-the-first-past = refl
 pub within-by-the-lowest-alone : isWithin 5 2 ≡ false
 unfolding every member isWithin
 within-by-the-lowest-alone = refl
+
+-- ---- followers
+
+pub one-voter-is-enough : sizeOk 3 6 ≡ false
+unfolding every count member isWithin sizeOk
+one-voter-is-enough = refl
+
+pub a-follower-past-the-count : sizeOk 2 4 ≡ false
+unfolding every member isWithin sizeOk
+a-follower-past-the-count = refl
+
+pub fresh-without-followers : freshCluster 3 4 .followers ≡ 4
+fresh-without-followers = refl
+
+pub every-server-votes : voters 3 4 ≡ 2
+unfolding count member
+every-server-votes = refl
+
+pub only-followers-vote : votes 4 0 ≡ true
+unfolding member
+only-followers-vote = refl
+
+pub apart-by-server-0-alone : isApart 2 2 ≡ false
+unfolding every member isApart
+apart-by-server-0-alone = refl
 
 pub half-is-a-majority : isMajority 1 2 ≡ false
 unfolding count member
@@ -181,6 +210,6 @@ pub rowed-sets-the-clocks : serverAt (rowedAll F2) 2 .head .wall ≡ 0
 unfolding eachFrom startedOf rowedOf
 rowed-sets-the-clocks = refl
 
-pub well-formed-without-its-rows : serverOk 2 0 freshServer ≡ true
-unfolding every highest isBefore sameTime sameEntry entryAt latestValue inOrder restZero logOk rowOk rowsOk isUnused isUsed noteOk notesOk slotOk queueOk sourceOk mailOk numbersOk countedOk serverOk
+pub well-formed-without-its-rows : serverOk 2 0 0 freshServer ≡ true
+unfolding every highest isBefore sameTime sameEntry entryAt latestValue inOrder restZero logOk rowOk rowsOk isUnused isUsed noteOk notesOk slotOk queueOk sourceOk mailOk numbersOk member countedOk serverOk
 well-formed-without-its-rows = refl

@@ -10,6 +10,7 @@ use Rattle.log.specs.declared.Entry.{Entry as EntryOf}
 use Rattle.mail.specs.declared.Note.{Note}
 use Rattle.mail.specs.Reports.{zeroNote}
 use Rattle.cluster.specs.declared.Server.{Server}
+use Rattle.cluster.specs.Sets.{member}
 use Rattle.cluster.specs.Servers.{withMail, freshServer, startedOf, serverAt}
 use Rattle.steps.specs.declared.Answer.the-variants.{Reached, Refused}
 use Rattle.steps.specs.declared.Refusal.the-variants.{WrongRole}
@@ -36,17 +37,27 @@ pub backs-itself-by-its-note : backs (noted [] (u ∷ [])) 0 1 0 ≡ true
 unfolding backs
 backs-itself-by-its-note = refl
 
-pub counts-entries-of-older-terms : highestPassing 2 (noted (zeroNote ∷ note 2 2 1 ∷ []) (x ∷ [])) 0 ≡ 0
-unfolding highest entryAt passes highestPassing
+pub counts-entries-of-older-terms : highestPassing 2 0 (noted (zeroNote ∷ note 2 2 1 ∷ []) (x ∷ [])) 0 ≡ 0
+unfolding count highest entryAt member backs passes highestPassing
 counts-entries-of-older-terms = refl
 
-pub counts-its-own-note : highestPassing 2 (noted (note 2 2 1 ∷ []) (u ∷ [])) 0 ≡ 0
-unfolding count highest entryAt backs passes highestPassing
+pub counts-its-own-note : highestPassing 2 0 (noted (note 2 2 1 ∷ []) (u ∷ [])) 0 ≡ 0
+unfolding count highest entryAt member backs passes highestPassing
 counts-its-own-note = refl
+
+-- three servers, of which server 2 is a follower and noted
+pub a-followers-note-counts : highestPassing 3 4 (noted (zeroNote ∷ zeroNote ∷ note 2 2 1 ∷ []) (u ∷ [])) 0 ≡ 0
+unfolding count highest entryAt member backs passes highestPassing
+a-followers-note-counts = refl
+
+-- seven servers, of which 0 and 1 vote
+pub passes-by-all-servers : highestPassing 7 124 (noted (zeroNote ∷ note 2 2 1 ∷ []) (u ∷ [])) 0 ≡ 1
+unfolding count highest entryAt member backs passes highestPassing
+passes-by-all-servers = refl
 
 -- entries 2/5/42@(2,0) and 2/5/43@(3,0), both noted
 pub advances-one-further : advancesOf (two (noted (zeroNote ∷ note 2 2 2 ∷ []) (u ∷ entry 2 5 43 (at 3 0) ∷ [])) freshServer) 0 .answer ≡ Reached 2
-unfolding count highest entryAt backs passes highestPassing
+unfolding count highest entryAt member backs passes highestPassing
 advances-one-further = refl
 
 pub secondary-advances : advancesOf F2 0 .answer ≡ Refused WrongRole
@@ -55,5 +66,5 @@ secondary-advances = refl
 
 pub advances-without-its-row :
     valueFor (serverAt (advancesOf (two (noted (zeroNote ∷ note 2 2 2 ∷ []) (u ∷ entry 2 5 43 (at 3 0) ∷ [])) freshServer) 0 .cluster) 0 .rows .committed) 5 ≡ 43
-unfolding count highest entryAt latestAfter backs passes highestPassing
+unfolding count highest entryAt latestAfter member backs passes highestPassing
 advances-without-its-row = refl

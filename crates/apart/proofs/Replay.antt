@@ -12,7 +12,8 @@ use Rattle.log.specs.Order.{inOrder, restZero, isEmptyLog, logOk}
 use Rattle.log.specs.Rows.{rowOk, rowsOk}
 use Rattle.cluster.specs.Servers.{freshServer, zeroCluster, serverAt}
 use Rattle.mail.specs.Order.{isUnused, isUsed, noteOk, notesOk, slotOk, queueOk, sourceOk, mailOk}
-use Rattle.cluster.specs.WellFormed.{numbersOk, countedOk, zeroOk, serverOk, wellFormed}
+use Rattle.cluster.specs.Sets.{member, isWithin}
+use Rattle.cluster.specs.WellFormed.{numbersOk, countedOk, zeroOk, serverOk, sizeOk, wellFormed}
 use Rattle.steps.specs.declared.Answer.the-variants.{Refused}
 use Rattle.steps.specs.declared.Refusal.the-variants.{NotAFrame, IllFormed}
 use Rattle.steps.specs.declared.Step.the-variants.{Start, Hears, ClocksAgree}
@@ -78,7 +79,7 @@ pub plan-gives-2-before-1 : planOf 0 false R.NoFrame ≡ Refuse NotAFrame
 unfolding planOf
 plan-gives-2-before-1 = refl
 
-pub plan-lets-a-start-look : planOf 0 false (R.Step (Start 2)) ≡ Record (Start 2)
+pub plan-lets-a-start-look : planOf 0 false (R.Step (Start 2 0)) ≡ Record (Start 2 0)
 unfolding placeOf planOf
 plan-lets-a-start-look = refl
 
@@ -86,7 +87,7 @@ plan-lets-a-start-look = refl
 pub the-wrong-server-is-replaced :
     serverAt (fedOf (record { cluster = two freshServer (holder 1 []); reader = reader (writeStep (Hears 0 1)) 26 false }) (10 ∷ []) 19 .session .cluster) 0 .head .term
     ≡ 1
-unfolding every count eachFrom isBefore sameTime laterOf sameEntry entryAt inOrder restZero isEmptyLog logOk isUnused isUsed noteOk notesOk slotOk queueOk sourceOk mailOk numbersOk countedOk zeroOk highest latestValue rowOk rowsOk serverOk wellFormed digitOf charOf byteOf allHex highOf lowOf wordOf framed bytesOfFrame frameOf stepOfFrame isClean stepIn heardOf delivered rowOf coreOf stepOf respond answerTo lineOf lineHeld byteAfter after said fedOf
+unfolding every count eachFrom isBefore sameTime laterOf sameEntry entryAt inOrder restZero isEmptyLog logOk isUnused isUsed noteOk notesOk slotOk queueOk sourceOk mailOk numbersOk countedOk zeroOk highest latestValue rowOk rowsOk serverOk wellFormed digitOf charOf byteOf allHex highOf lowOf wordOf framed bytesOfFrame frameOf stepOfFrame isClean stepIn heardOf delivered rowOf coreOf stepOf respond answerTo lineOf lineHeld byteAfter after said fedOf member isWithin sizeOk
 the-wrong-server-is-replaced = refl
 
 pub rest-without-line-feed-is-dropped : isEmpty (pushOf freshReader 48) ≡ false
@@ -101,7 +102,7 @@ unfolding respond
 responds-2-to-a-bad-line = refl
 
 pub responds-without-the-test : respond zeroCluster (R.Step ClocksAgree) .answer ≡ Refused IllFormed
-unfolding wellFormed stepOf respond
+unfolding sizeOk wellFormed stepOf respond
 responds-without-the-test = refl
 
 pub finish-answers-an-empty-rest : finishOf (begun F2) 19 .wrote ≡ 0

@@ -10,14 +10,14 @@ use Rattle.log.specs.Rows.{latestAfter}
 use Rattle.mail.specs.Queues.{queued}
 use Rattle.cluster.specs.declared.Server.{Server}
 use Rattle.cluster.specs.Servers.{freshServer, zeroCluster, startedOf, serverAt}
-use Rattle.cluster.specs.Sets.{member, isWithin}
-use Rattle.cluster.specs.WellFormed.{wellFormed}
+use Rattle.cluster.specs.Sets.{member, isWithin, isApart}
+use Rattle.cluster.specs.WellFormed.{sizeOk, wellFormed}
 use Rattle.steps.specs.declared.Answer.the-variants as A
 use Rattle.steps.specs.declared.Refusal.the-variants.{IllFormed, OutOfRange}
 use Rattle.steps.specs.declared.Sends.the-variants as S
 use Rattle.steps.specs.declared.Step.the-variants.{Start, Elect, StepDown, Hears, WallClock, Restarts, LocalRead, ClocksAgree}
 use Rattle.pairs.specs.Hears.{heardOf}
-use Rattle.wholes.specs.Elects.{notBehind, mayVote, allMayVote}
+use Rattle.wholes.specs.Elects.{notBehind, mayVote, allMayVote, areVoters}
 use Rattle.rules.specs.Rules.{delivered, putBack, rowOf, coreOf, isStart, stepOf}
 use Rattle.rules.specs.One.{untouchedOf, oneOf, singleOf, pairOf}
 use Rattle.apart.proofs.Things.{at, x, f, holder, leader, two, F2}
@@ -69,15 +69,15 @@ unfolding rowOf coreOf
 core-looks-at-the-record = refl
 
 pub core-refuses-every-step : coreOf F2 (Elect 0 3) .answer ≡ A.Elected 1
-unfolding every count eachFrom entryAt startedOf member isWithin notBehind mayVote allMayVote rowOf coreOf
+unfolding every count eachFrom entryAt startedOf member isWithin isApart notBehind mayVote allMayVote areVoters rowOf coreOf
 core-refuses-every-step = refl
 
-pub is-start-never : isStart (Start 2) ≡ true
+pub is-start-never : isStart (Start 2 0) ≡ true
 is-start-never = refl
 
 pub is-start-always : isStart ClocksAgree ≡ false
 is-start-always = refl
 
 pub ill-formed-records-pass : stepOf zeroCluster ClocksAgree .answer ≡ A.Refused IllFormed
-unfolding wellFormed stepOf
+unfolding sizeOk wellFormed stepOf
 ill-formed-records-pass = refl

@@ -108,7 +108,7 @@ timed time = server 0 false 0 1 time []
 
 -- the record of these two
 abbrev pub two : Server → Server → Cluster
-two s t = record { count = 2; servers = s ∷ t ∷ replicate 5 zeroServer }
+two s t = record { count = 2; followers = 0; servers = s ∷ t ∷ replicate 5 zeroServer }
 
 abbrev pub F2 : Cluster
-F2 = freshCluster 2
+F2 = freshCluster 2 0

@@ -1,6 +1,6 @@
--- Laws of `count`, for a loop that counts, and that two counts over half share a number. Assumes nothing.
+-- Laws of `count`, for a loop that counts, and that two counts over half of the voters share a number. Assumes nothing.
 use mathlib.Core.Path.{_≡_, refl}
-use mathlib.Core.Bool.{Bool, true, false, cond}
+use mathlib.Core.Bool.{Bool, true, false, cond, _&&_}
 use Prim.Native.Nat.{ℕ, zero, suc, _+_, _<_, _≤_}
 use native.Mathlib.Numerals.{add-one}
 use native.Mathlib.Omega.{arith}
@@ -56,15 +56,19 @@ pub record Both (n : ℕ) (p q : ℕ → Bool) : Type 0 where
 later : {n : ℕ} {p q : ℕ → Bool} → Both n p q → Both (suc n) p q
 later b = record { who = b .who; below = omega arith; left = b .left; right = b .right }
 
--- two counts that exceed n together share a number
-pub count-meet : (p q : ℕ → Bool) (n : ℕ) → n < count n p + count n q → Both n p q
+-- two counts among those that pass v, which together exceed the number of these, share a number
+pub count-meet : (v p q : ℕ → Bool) (n : ℕ) → count n v < count n (λ i. v i && p i) + count n (λ i. v i && q i)
+    → Both n (λ i. v i && p i) (λ i. v i && q i)
 unfolding count
-count-meet p q zero h = absurd (omega arith)
-count-meet p q (suc n) h = go (p n) (q n) refl refl (count-meet p q n) h
+count-meet v p q zero h = absurd (omega arith)
+count-meet v p q (suc n) h = go (v n) (p n) (q n) refl refl refl (count-meet v p q n) h
   where
-    go : (a b : Bool) → p n ≡ a → q n ≡ b → (n < count n p + count n q → Both n p q)
-        → suc n < cond a 1 0 + count n p + (cond b 1 0 + count n q) → Both (suc n) p q
-    go true true e f ih h = record { who = n; below = omega arith; left = e; right = f }
-    go true false e f ih h = later (ih (omega arith))
-    go false true e f ih h = later (ih (omega arith))
-    go false false e f ih h = later (ih (omega arith))
+    go : (a b d : Bool) → v n ≡ a → p n ≡ b → q n ≡ d
+        → (count n v < count n (λ i. v i && p i) + count n (λ i. v i && q i) → Both n (λ i. v i && p i) (λ i. v i && q i))
+        → cond a 1 0 + count n v < cond (a && b) 1 0 + count n (λ i. v i && p i) + (cond (a && d) 1 0 + count n (λ i. v i && q i))
+        → Both (suc n) (λ i. v i && p i) (λ i. v i && q i)
+    go true true true x y z ih h = record { who = n; below = omega arith; left = rw (x, y); right = rw (x, z) }
+    go true true false x y z ih h = later (ih (omega arith))
+    go true false true x y z ih h = later (ih (omega arith))
+    go true false false x y z ih h = later (ih (omega arith))
+    go false b d x y z ih h = later (ih (omega arith))

@@ -19,8 +19,9 @@ use Prim.Native.Nat.{ℕ, _≤_, _<_, _*_, _/_, _%_, _^_}
 use lib.Count.{ones}
 use lib.Dec.{eqb, leb}
 use lib.ListN.{length, getD, take}
+use Rattle.base.proofs.Bools.{and-left, and-right}
 use Rattle.base.proofs.Results.{OneResult, OneOutcome}
-use Rattle.base.specs.Numbers.{count}
+use Rattle.base.specs.Numbers.{byte, count}
 use Rattle.clock.specs.declared.Ticked.the-variants.{To}
 use Rattle.clock.specs.declared.Time.{Time}
 use Rattle.clock.specs.Times.{limit, zeroTime, isBefore, tickOf}
@@ -37,7 +38,7 @@ use Rattle.log.proofs.Equal as equal
 use Rattle.log.specs.Rows.{valueFor}
 use Rattle.log.proofs.Latest as latest
 use Rattle.cluster.specs.declared.Server.{Server}
-use Rattle.cluster.specs.Sets.{bits, membersOf, mostOf}
+use Rattle.cluster.specs.Sets.{bits, membersOf, votes, voters, votersWith, mostOf}
 use Rattle.cluster.proofs.Good as facts
 use Rattle.cluster.proofs.Masks as masks
 use Rattle.steps.specs.declared.Step.the-variants.{Start, Elect, Pulls, RollsBack, Writes, Acknowledged, ClocksAgree, WritesNothing, NewestRead, TakesReport}
@@ -64,8 +65,8 @@ use Rattle.answers.proofs.Lengths as answer-lengths
 use Rattle.mail.specs.Mails.{noteAt, withNotes, withQueue}
 use Rattle.cluster.specs.declared.Cluster.{Cluster}
 use Rattle.cluster.specs.Ranges.{Fits}
-use Rattle.cluster.specs.Servers.{withTerm, withPrimary, withWall, withHead, withMail, serverAt, serverCount, freshCluster, fewestServers, mostServers}
-use Rattle.cluster.specs.WellFormed.{wellFormed}
+use Rattle.cluster.specs.Servers.{withTerm, withPrimary, withWall, withHead, withMail, serverAt, serverCount, freshCluster, mostServers}
+use Rattle.cluster.specs.WellFormed.{sizeOk, wellFormed}
 use Rattle.cluster.proofs.Fresh.{well-formed-fresh, fits-fresh}
 use Rattle.steps.specs.declared.Answer.{Answer}
 use Rattle.steps.specs.declared.Answer.the-variants as A
@@ -168,7 +169,7 @@ use borrow.Author.Tests.{le-ltb, lt-ltb, le-leb, ne-eqb}
 use native.Mathlib.Omega.{arith}
 use Rattle.saved.specs.declared.Saved.{Saved}
 use Rattle.saved.specs.declared.Saved.the-variants as saving
-use Rattle.saved.specs.Editions.{edition1, edition2, editions, newest, hasForm}
+use Rattle.saved.specs.Editions.{Edition, edition1, edition2, edition3, editions, newest, hasForm}
 use Rattle.saved.specs.Saved.{saveOf}
 use Rattle.saved.specs.Shape.{namedIn, shaped}
 use Rattle.saved.specs.Written.{longest, savedAsOf, savedAsOut, savedOf, savedOut}
@@ -183,7 +184,7 @@ use Rattle.shapes.proofs.Next as knowing
 use Rattle.shapes.proofs.Told as shapes
 use Rattle.shapes.proofs.Named as named
 use Rattle.loads.specs.Loads.{loaded, loadOf}
-use Rattle.loads.specs.Statements.{Finds, LoadsExactly, NoFrameExactly, IllFormedExactly, LoadsOrRefuses, UnknownIsRefused, GivesBackIn, GivesBack, OneEach, MeansTheSame, OverIsRefused, OldRefusesNew}
+use Rattle.loads.specs.Statements.{Finds, LoadsExactly, NoFrameExactly, IllFormedExactly, LoadsOrRefuses, UnknownIsRefused, GivesBackIn, GivesBack, OneEach, MeansTheSame, NoFollowers, OverIsRefused, OldRefusesNew}
 use Rattle.loads.proofs.Loads as loads
 use Rattle.loads.proofs.load.Reads as load-contract
 use Rattle.promises.specs.Runs.{LeadsTo, FromFresh}
@@ -252,8 +253,9 @@ refused-line-changes-nothing = refused.refused-line
 pub others-unchanged : (c : Cluster) (s : Step) (i : ℕ) → touches c s i ≡ false → serverAt (stepOf c s .cluster) i ≡ serverAt c i
 others-unchanged = others.others-unchanged
 
-pub count-unchanged : (c : Cluster) (s : Step) → isStart s ≡ false → stepOf c s .cluster .count ≡ c .count
-count-unchanged = others.count-unchanged
+pub size-unchanged : (c : Cluster) (s : Step) → isStart s ≡ false
+    → (stepOf c s .cluster .count ≡ c .count) × (stepOf c s .cluster .followers ≡ c .followers)
+size-unchanged = others.size-unchanged
 
 -- a step keeps a record well formed and in the types' ranges; the fresh cluster is both
 pub step-keeps-well-formed : (c : Cluster) (s : Step) → Fits c → FitsStep s → wellFormed c ≡ true → wellFormed (stepOf c s .cluster) ≡ true
@@ -262,10 +264,10 @@ step-keeps-well-formed = keeps.step-well-formed
 pub step-keeps-ranges : (c : Cluster) (s : Step) → Fits c → FitsStep s → Fits (stepOf c s .cluster)
 step-keeps-ranges = keeps.step-fits
 
-pub fresh-is-well-formed : (n : ℕ) → fewestServers ≤ n → n ≤ mostServers → wellFormed (freshCluster n) ≡ true
+pub fresh-is-well-formed : (n f : ℕ) → sizeOk n f ≡ true → wellFormed (freshCluster n f) ≡ true
 fresh-is-well-formed = well-formed-fresh
 
-pub fresh-is-in-range : (n : ℕ) → n ≤ mostServers → Fits (freshCluster n)
+pub fresh-is-in-range : (n f : ℕ) → n ≤ mostServers → f < byte → Fits (freshCluster n f)
 fresh-is-in-range = fits-fresh
 
 -- every record and every step of the types is in range
@@ -475,7 +477,7 @@ an-ill-formed-record-is-not c out w = (rw w, rw w)
 
 pub no-saved-form-is-longer : (c : Cluster) → Fits c → wellFormed c ≡ true → length (saveOf c) ≤ longest
 unfolding saveOf
-no-saved-form-is-longer c f w = saved-frames.saved-length c f w newest refl
+no-saved-form-is-longer c f w = saved-frames.saved-length c f w (newest .number)
 
 -- in an edition that is known a record is saved where that has a form for it, and the newest has one for every well-formed record
 pub save-as-is : (κs : Lfts 1) (n : ℕ) (c : Cluster) (out o : RefT (List ℕ)) (r : Saved) → save-as-contract.Learnt κs (n, (c, (out, tt))) r (n, (c, (o, tt)))
@@ -510,28 +512,41 @@ reading-gives-back = loads.gives-back
 pub in-each-edition : GivesBackIn editions
 in-each-edition = loads.gives-back-in editions knowing.reads-all
 
-pub both-are-found : Finds editions edition1 × Finds editions edition2
-both-are-found = (loads.finds-1, loads.finds-2)
+pub all-are-found : Finds editions edition1 × Finds editions edition2 × Finds editions edition3
+all-are-found = (loads.finds-1, loads.finds-2, loads.finds-3)
 
-pub one-saved-form-each : OneEach edition1 × OneEach edition2
-one-saved-form-each = (loads.one-each edition1 lawful.lawful1 (omega arith), loads.one-each edition2 lawful.lawful1 (omega arith))
+pub one-saved-form-each : OneEach edition1 × OneEach edition2 × OneEach edition3
+one-saved-form-each = (
+  loads.one-each edition1 lawful.lawful1 (omega arith),
+  loads.one-each edition2 lawful.lawful1 (omega arith),
+  loads.one-each edition3 lawful.lawful3 (omega arith),
+)
 
--- edition 1 means what it meant, and a reader of edition 1 alone is as exact, and refuses edition 2 in its first line, whatever follows
-pub edition-1-means-the-same : MeansTheSame
-edition-1-means-the-same = loads.means-the-same
+-- editions 1 and 2 mean what they meant, and no followers; a reader of them alone is as exact, and refuses what is newer in its first line, whatever follows
+abbrev earlier : List Edition
+earlier = edition1 ∷ edition2 ∷ []
 
-pub old-loads-exactly : LoadsExactly (edition1 ∷ [])
-old-loads-exactly = loads.loads-exactly (edition1 ∷ []) knowing.reads-old
+pub edition-1-means-the-same : MeansTheSame (edition1 ∷ []) edition1 × MeansTheSame earlier edition1
+edition-1-means-the-same = (loads.means-the-same (edition1 ∷ []) edition1 refl refl, loads.means-the-same earlier edition1 refl refl)
+
+pub edition-2-means-the-same : MeansTheSame earlier edition2
+edition-2-means-the-same = loads.means-the-same earlier edition2 refl refl
+
+pub they-mean-no-followers : NoFollowers edition1 × NoFollowers edition2
+they-mean-no-followers = (loads.no-followers edition1 loads.finds-1 refl, loads.no-followers edition2 loads.finds-2 refl)
+
+pub old-loads-exactly : LoadsExactly (edition1 ∷ []) × LoadsExactly earlier
+old-loads-exactly = (loads.loads-exactly (edition1 ∷ []) knowing.reads-old, loads.loads-exactly earlier knowing.reads-earlier)
 
 pub over-edition-1-is-refused : OverIsRefused
 over-edition-1-is-refused = loads.over-is-refused
 
-pub old-refuses-new : OldRefusesNew
-old-refuses-new = loads.old-refuses-new
+pub old-refuses-new : OldRefusesNew (edition1 ∷ []) edition2 × OldRefusesNew earlier edition3
+old-refuses-new = (loads.old-refuses-new (edition1 ∷ []) edition2 knowing.reads-old refl, loads.old-refuses-new earlier edition3 knowing.reads-earlier refl)
 
-pub in-its-first-line : (line rest : List ℕ) → ((i : ℕ) → i < length line → getD line i 0 ≢ lineFeed) → namedIn line ≡ edition2 .number
-    → AtOnce (walkedFor (edition1 ∷ []) freshShape (line ++ (lineFeed ∷ rest)))
-in-its-first-line line rest h n = named.unknown-at-once (edition1 ∷ []) knowing.reads-old line rest h (rw n)
+pub in-its-first-line : (line rest : List ℕ) → ((i : ℕ) → i < length line → getD line i 0 ≢ lineFeed) → namedIn line ≡ edition3 .number
+    → AtOnce (walkedFor earlier freshShape (line ++ (lineFeed ∷ rest)))
+in-its-first-line line rest h n = named.unknown-at-once earlier knowing.reads-earlier line rest h (rw n)
 
 -- the shape is told in whatever pieces the text arrives
 pub the-shape-is-told : (text : List ℕ) → isShaped (walked freshShape text) ≡ shaped text
@@ -632,7 +647,7 @@ pub a-named-record-breaks-what-is-told : (g : Committed) (rs : List PhoneRecord)
 a-named-record-breaks-what-is-told = reasons.named-because
 
 -- a run of three phones with an election and a rollback; the report that was never acknowledged is named
-pub three-phones : Made (freshCluster 3) phones.run [] [] phones.records × (checkOf phones.records phones.committed ≡ checking.Accepted)
+pub three-phones : Made (freshCluster 3 0) phones.run [] [] phones.records × (checkOf phones.records phones.committed ≡ checking.Accepted)
 three-phones = (phones.made, phones.accepted)
 
 pub the-report-of-40-is-named : checkOf (phones.records ++ (recordOfWrite 3 phones.w40 ∷ [])) phones.committed ≡ checking.Breaks 5
@@ -702,24 +717,27 @@ pub listed-as-read-by-majority : (s : Server) (key : ℕ) → key ≤ highestKey
     → majorityReadOf s key asked .answer ≡ A.Value (valueFor (committedList s .latest) key) (committedList s .time)
 listed-as-read-by-majority = walks.committed-listed
 
--- the ones of a mask are the set's members, and two majorities share a server
+-- the ones of a mask are the set's members, and two majorities share a server that votes
 pub ones-are-members : (m : ℕ) → m < 2 ^ bits → ones m ≡ membersOf m
 ones-are-members = masks.ones-members
 
-pub majorities-meet : (p q : ℕ → Bool) (n : ℕ) → mostOf n (count n p) ≡ true → mostOf n (count n q) ≡ true
-    → (i : ℕ) × (i < n) × (p i ≡ true) × (q i ≡ true)
-majorities-meet p q n h k = let b = masks.majorities-meet p q n h k in (b .who, b .below, b .left, b .right)
+pub majorities-meet : (n f : ℕ) (p q : ℕ → Bool) → mostOf (voters n f) (votersWith n f p) ≡ true → mostOf (voters n f) (votersWith n f q) ≡ true
+    → (i : ℕ) × (i < n) × (votes f i ≡ true) × (p i ≡ true) × (q i ≡ true)
+majorities-meet n f p q h k =
+    let b = masks.majorities-meet n f p q h k in
+    let v = votes f (b .who) in
+    (b .who, b .below, and-left v _ (b .left), and-right v _ (b .left), and-right v _ (b .right))
 
 -- what kind 7 finds passes, and nothing above it does
-pub found-passes : (size : ℕ) (s : Server) (a : ℕ) → 1 ≤ highestPassing size s a → passes size s a (highestPassing size s a) ≡ true
+pub found-passes : (size f : ℕ) (s : Server) (a : ℕ) → 1 ≤ highestPassing size f s a → passes size f s a (highestPassing size f s a) ≡ true
 found-passes = passing.passing-passes
 
-pub nothing-above-passes : (size : ℕ) (s : Server) (a n : ℕ) → highestPassing size s a < n → n ≤ lengthOf (s .log) → passes size s a n ≡ false
+pub nothing-above-passes : (size f : ℕ) (s : Server) (a n : ℕ) → highestPassing size f s a < n → n ≤ lengthOf (s .log) → passes size f s a n ≡ false
 nothing-above-passes = passing.passing-highest
 
 -- a start that is allowed gives the fresh cluster; an election, agreeing clocks, and what pulls, rollbacks and taken reports send change no
 -- more than their rows name
-pub a-start-is-fresh : (c : Cluster) (n : ℕ) → Clear (startRules n) → stepOf c (Start n) .cluster ≡ freshCluster n
+pub a-start-is-fresh : (c : Cluster) (n f : ℕ) → Clear (startRules n f) → stepOf c (Start n f) .cluster ≡ freshCluster n f
 a-start-is-fresh = keeps.start-fresh
 
 pub an-election-changes-offices : (c : Cluster) (a m i : ℕ) → let t = serverAt (stepOf c (Elect a m) .cluster) i in

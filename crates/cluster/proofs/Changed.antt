@@ -28,7 +28,7 @@ module _ (c : Cluster) (a : ℕ) (s : Server) where
 
 -- every server is what the change makes of it
 pub changed-at : (f : ℕ → Server → Server) (c : Cluster) (i : ℕ) → i < length (c .servers)
-    → serverAt (record { count = c .count; servers = each f (c .servers) }) i ≡ f i (serverAt c i)
+    → serverAt (record { count = c .count; followers = c .followers; servers = each f (c .servers) }) i ≡ f i (serverAt c i)
 changed-at f c i h = each-at f (c .servers) i pastServer h
 
 module _ {s : Server} (f : FitsServer s) where
@@ -50,6 +50,7 @@ unfolding rowedOf
 fits-rowed {c} f =
     record {
       count = f .count;
+      followers = f .followers;
       slots = length-eachFrom (λ i. rowedOf) 0 (c .servers) ∙ f .slots;
       each = λ i l. rw (changed-at (λ i. rowedOf) c i (omega (arith, f .slots))) (fits-rows (f .each i l) (fits-rows-of (f .each i l .log) (serverAt c i .head .commit)));
     }

@@ -1,4 +1,4 @@
--- The fresh cluster of 2 to 7 servers: each counted server is fresh, the record is well formed and fits. Assumes nothing.
+-- The fresh cluster of 2 to 7 servers, two of which vote: each counted server is fresh, the record is well formed and fits. Assumes nothing.
 use mathlib.Core.Path.{_≡_, refl, ap, _∙_}
 use mathlib.Core.Logic.{⊎-elim}
 use mathlib.Core.Bool.{true, false}
@@ -7,6 +7,7 @@ use Prim.Native.Nat.{ℕ, _<_, _≤_}
 use native.Mathlib.Omega.{arith}
 use lib.ListN.{length-replicate, getD-replicate}
 use borrow.Author.Tests.{lt-ltb, le-ltb}
+use Rattle.base.specs.Numbers.{byte, every, count}
 use Rattle.base.proofs.Bools.{not-both}
 use Rattle.base.proofs.Each.{length-eachFrom}
 use Rattle.base.proofs.Facts.{lt-or-le}
@@ -20,26 +21,27 @@ use Rattle.log.proofs.Tidy.{tidy-empty}
 use Rattle.log.proofs.Orderly.{Orderly}
 use Rattle.log.proofs.Ranges.{fits-zero-rows}
 use Rattle.log.proofs.Rowed.{rows-of-good}
-use Rattle.cluster.specs.Servers.{mostServers, fewestServers, withWall, withHead, zeroHead, zeroServer, freshServer, pastServer, serverAt, startedOf, freshCluster, zeroCluster}
+use Rattle.cluster.specs.Sets.{member, isWithin}
+use Rattle.cluster.specs.Servers.{fewestServers, mostServers, withWall, withHead, zeroHead, zeroServer, freshServer, pastServer, serverAt, startedOf, freshCluster, zeroCluster}
 use Rattle.mail.proofs.Kept.{zero-good}
 use Rattle.mail.proofs.Ranges.{fits-zero-mail}
 use Rattle.cluster.specs.Ranges.{FitsServer, Fits}
-use Rattle.cluster.specs.WellFormed.{wellFormed}
+use Rattle.cluster.specs.WellFormed.{sizeOk, wellFormed}
 use Rattle.cluster.proofs.Changed.{changed-at}
-use Rattle.cluster.proofs.Good.{ServerGood, Good, well-formed}
+use Rattle.cluster.proofs.Good.{ServerGood, size-good, Good, well-formed}
 
 -- ---- its servers
 
-started-at : (n i : ℕ) → i < mostServers → serverAt (freshCluster n) i ≡ startedOf n i zeroServer
-started-at n i h = changed-at (startedOf n) zeroCluster i h ∙ ap (startedOf n i) (getD-replicate mostServers i zeroServer pastServer h)
+started-at : (n f i : ℕ) → i < mostServers → serverAt (freshCluster n f) i ≡ startedOf n i zeroServer
+started-at n f i h = changed-at (startedOf n) zeroCluster i h ∙ ap (startedOf n i) (getD-replicate mostServers i zeroServer pastServer h)
 
-pub fresh-at : (n i : ℕ) → i < n → i < mostServers → serverAt (freshCluster n) i ≡ freshServer
+pub fresh-at : (n f i : ℕ) → i < n → i < mostServers → serverAt (freshCluster n f) i ≡ freshServer
 unfolding startedOf
-fresh-at n i h m = started-at n i m ∙ rw (lt-ltb i n h)
+fresh-at n f i h m = started-at n f i m ∙ rw (lt-ltb i n h)
 
-pub fresh-past : (n i : ℕ) → n ≤ i → i < mostServers → serverAt (freshCluster n) i ≡ zeroServer
+pub fresh-past : (n f i : ℕ) → n ≤ i → i < mostServers → serverAt (freshCluster n f) i ≡ zeroServer
 unfolding startedOf
-fresh-past n i h m = started-at n i m ∙ rw (le-ltb i n h)
+fresh-past n f i h m = started-at n f i m ∙ rw (le-ltb i n h)
 
 -- ---- it is well formed
 
@@ -58,18 +60,27 @@ fresh-good =
       rows = rows-of-good emptyLog 0;
     }
 
-pub good-fresh : (n : ℕ) → fewestServers ≤ n → n ≤ mostServers → Good (freshCluster n)
-good-fresh n two seven =
+pub good-fresh : (n f : ℕ) → sizeOk n f ≡ true → Good (freshCluster n f)
+good-fresh n f h =
+    let z = size-good h in
+    let seven = z .at-most-seven in
     record {
-      at-least-two = two;
+      size = h;
+      at-least-two = z .at-least-two;
       at-most-seven = seven;
-      counted = λ i l. rw (fresh-at n i l (omega arith)) fresh-good;
-      mailed = λ i l. rw (fresh-at n i l (omega arith)) zero-good;
-      past = λ i l m. fresh-past n i l m;
+      counted = λ i l. rw (fresh-at n f i l (omega arith)) fresh-good;
+      mailed = λ i l. rw (fresh-at n f i l (omega arith)) zero-good;
+      primaries-vote = λ i l p. not-both false (rw (fresh-at n f i l (omega arith)) at p) refl;
+      past = λ i l m. fresh-past n f i l m;
     }
 
-pub well-formed-fresh : (n : ℕ) → fewestServers ≤ n → n ≤ mostServers → wellFormed (freshCluster n) ≡ true
-well-formed-fresh n two seven = well-formed (freshCluster n) (good-fresh n two seven)
+-- two servers that both vote are a cluster
+pub two-vote : sizeOk fewestServers 0 ≡ true
+unfolding every count member isWithin sizeOk
+two-vote = refl
+
+pub well-formed-fresh : (n f : ℕ) → sizeOk n f ≡ true → wellFormed (freshCluster n f) ≡ true
+well-formed-fresh n f h = well-formed (freshCluster n f) (good-fresh n f h)
 
 -- ---- it fits
 
@@ -91,10 +102,11 @@ fits-started n i = ⊎-elim (λ l. rw (lt-ltb i n l) (plain 1 (omega arith))) (�
     plain : (w : ℕ) → w ≤ 1 → FitsServer (withHead zeroServer (withWall zeroHead w))
     plain w h = record { head = record { term = omega arith; commit = omega arith; wall = omega arith; time = fits-zero-time }; log = fits-empty; mail = fits-zero-mail; rows = fits-zero-rows }
 
-pub fits-fresh : (n : ℕ) → n ≤ mostServers → Fits (freshCluster n)
-fits-fresh n h =
+pub fits-fresh : (n f : ℕ) → n ≤ mostServers → f < byte → Fits (freshCluster n f)
+fits-fresh n f h k =
     record {
       count = omega arith;
+      followers = k;
       slots = length-eachFrom (startedOf n) 0 (zeroCluster .servers);
-      each = λ i l. rw (started-at n i l) (fits-started n i);
+      each = λ i l. rw (started-at n f i l) (fits-started n i);
     }

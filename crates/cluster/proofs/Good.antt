@@ -25,8 +25,9 @@ use Rattle.mail.proofs.Good.{MailGood, mail-good, good-mail}
 use Rattle.mail.proofs.Kept.{zero-mail-is, zero-mail-ok}
 use Rattle.cluster.specs.declared.Server.{Server}
 use Rattle.cluster.specs.declared.Cluster.{Cluster}
-use Rattle.cluster.specs.Servers.{fewestServers, mostServers, zeroServer, serverAt}
-use Rattle.cluster.specs.WellFormed.{numbersOk, countedOk, zeroOk, serverOk, wellFormed}
+use Rattle.cluster.specs.Servers.{fewestServers, mostServers, fewestVoters, zeroServer, serverAt}
+use Rattle.cluster.specs.Sets.{member, isWithin, voters}
+use Rattle.cluster.specs.WellFormed.{numbersOk, countedOk, zeroOk, roleOk, serverOk, sizeOk, wellFormed}
 use Rattle.cluster.specs.Ranges.{FitsServer, Fits}
 
 -- ---- a counted server
@@ -102,51 +103,91 @@ good-past i s e = and-both _ _ (is-zero s e) (ap (λ (x : Server). mailOk 0 i (x
 zero-rows : (s : Server) → s ≡ zeroServer → rowsOk (s .rows) (s .log) (s .head .commit) ≡ true
 zero-rows s e = ap (λ (x : Server). rowsOk (x .rows) (x .log) (x .head .commit)) e ∙ good-rows (rows-of-good emptyLog 0)
 
+-- ---- how many servers, and which of them are followers
+
+pub record SizeGood (n f : ℕ) : Type 0 where
+  pub at-least-two : fewestServers ≤ n
+  pub at-most-seven : n ≤ mostServers
+  pub within : isWithin f n ≡ true
+  pub two-vote : fewestVoters ≤ voters n f
+
+pub size-good : {n f : ℕ} → sizeOk n f ≡ true → SizeGood n f
+unfolding sizeOk
+size-good {n} {f} h =
+    let h2 = and-right (leb fewestServers n) _ h in
+    let h3 = and-right (leb n mostServers) _ h2 in
+    record {
+      at-least-two = leb-true fewestServers n (and-left _ _ h);
+      at-most-seven = leb-true n mostServers (and-left _ _ h2);
+      within = and-left _ _ h3;
+      two-vote = leb-true fewestVoters (voters n f) (and-right (isWithin f n) _ h3);
+    }
+
 -- ---- the record
 
+-- no follower is primary
+no-follower : (f i : ℕ) (s : Server) → roleOk f i s ≡ true → s .head .primary ≡ true → member f i ≡ false
+no-follower f i s h p = not-true (member f i) (rw p at h)
+
+a-voter : (f i : ℕ) (s : Server) → (s .head .primary ≡ true → member f i ≡ false) → roleOk f i s ≡ true
+a-voter f i s h = go (s .head .primary) refl
+  where
+    go : (b : Bool) → s .head .primary ≡ b → not (b && member f i) ≡ true
+    go true e = not-is-true _ (h e)
+    go false e = refl
+
 pub record Good (c : Cluster) : Type 0 where
+  pub size : sizeOk (c .count) (c .followers) ≡ true
   pub at-least-two : fewestServers ≤ c .count
   pub at-most-seven : c .count ≤ mostServers
   pub counted : (i : ℕ) → i < c .count → ServerGood (serverAt c i)
   pub mailed : (i : ℕ) → i < c .count → MailGood (c .count) i (serverAt c i .mail)
+  pub primaries-vote : (i : ℕ) → i < c .count → serverAt c i .head .primary ≡ true → member (c .followers) i ≡ false
   pub past : (i : ℕ) → c .count ≤ i → i < mostServers → serverAt c i ≡ zeroServer
 
 pub good : (c : Cluster) → Fits c → wellFormed c ≡ true → Good c
 unfolding wellFormed serverOk
 good c f h =
-    let h2 = and-right (leb fewestServers (c .count)) _ h in
-    let seven = leb-true (c .count) mostServers (and-left _ _ h2) in
+    let z = size-good (and-left _ _ h) in
+    let seven = z .at-most-seven in
     record {
-      at-least-two = leb-true fewestServers (c .count) (and-left _ _ h);
+      size = and-left _ _ h;
+      at-least-two = z .at-least-two;
       at-most-seven = seven;
       counted = λ i l. server-good (serverAt c i) (f .each i (omega arith) .log .slots) (rowed i (omega arith)) (and-left _ _ (inside i l (omega arith)));
-      mailed = λ i l. mail-good (f .each i (omega arith) .mail) (and-right (countedOk (serverAt c i)) _ (inside i l (omega arith)));
+      mailed = λ i l. mail-good (f .each i (omega arith) .mail) (and-left _ _ (beside i l (omega arith)));
+      primaries-vote = λ i l. no-follower (c .followers) i (serverAt c i) (and-right (mailOk (c .count) i (serverAt c i .mail)) _ (beside i l (omega arith)));
       past = λ i l m. past-good i (serverAt c i) (f .each i m) (rowed i m) (rw (le-ltb i (c .count) l) at (and-right (rowsAt i) _ (each i m)));
     }
   where
     rowsAt : ℕ → Bool
     rowsAt i = rowsOk (serverAt c i .rows) (serverAt c i .log) (serverAt c i .head .commit)
 
-    each : (i : ℕ) → i < mostServers → serverOk (c .count) i (serverAt c i) ≡ true
-    each i l = every-at _ mostServers i (and-right (leb (c .count) mostServers) _ (and-right (leb fewestServers (c .count)) _ h)) l
+    each : (i : ℕ) → i < mostServers → serverOk (c .count) (c .followers) i (serverAt c i) ≡ true
+    each i l = every-at _ mostServers i (and-right (sizeOk (c .count) (c .followers)) _ h) l
 
     rowed : (i : ℕ) → i < mostServers → rowsOk (serverAt c i .rows) (serverAt c i .log) (serverAt c i .head .commit) ≡ true
     rowed i m = and-left _ _ (each i m)
 
-    inside : (i : ℕ) → i < c .count → i < mostServers → (countedOk (serverAt c i) && mailOk (c .count) i (serverAt c i .mail)) ≡ true
+    inside : (i : ℕ) → i < c .count → i < mostServers
+        → (countedOk (serverAt c i) && (mailOk (c .count) i (serverAt c i .mail) && roleOk (c .followers) i (serverAt c i))) ≡ true
     inside i l m = rw (lt-ltb i (c .count) l) at (and-right (rowsAt i) _ (each i m))
+
+    beside : (i : ℕ) → i < c .count → i < mostServers → (mailOk (c .count) i (serverAt c i .mail) && roleOk (c .followers) i (serverAt c i)) ≡ true
+    beside i l m = and-right (countedOk (serverAt c i)) _ (inside i l m)
 
 pub well-formed : (c : Cluster) → Good c → wellFormed c ≡ true
 unfolding wellFormed serverOk
 well-formed c g =
-    and-both _ _ (le-leb fewestServers (c .count) (g .at-least-two))
-    (and-both _ _ (le-leb (c .count) mostServers (g .at-most-seven))
-    (every-all _ mostServers (λ i m. ⊎-elim (λ l. in-place i l) (λ l. past-place i l m) (lt-or-le i (c .count)))))
+    and-both _ _ (g .size)
+    (every-all _ mostServers (λ i m. ⊎-elim (λ l. in-place i l) (λ l. past-place i l m) (lt-or-le i (c .count))))
   where
-    in-place : (i : ℕ) → i < c .count → serverOk (c .count) i (serverAt c i) ≡ true
+    in-place : (i : ℕ) → i < c .count → serverOk (c .count) (c .followers) i (serverAt c i) ≡ true
     in-place i l =
         rw (lt-ltb i (c .count) l)
-        (and-both _ _ (good-rows (g .counted i l .rows)) (and-both _ _ (good-server (serverAt c i) (g .counted i l)) (good-mail (g .mailed i l))))
+        (and-both _ _ (good-rows (g .counted i l .rows))
+        (and-both _ _ (good-server (serverAt c i) (g .counted i l))
+        (and-both _ _ (good-mail (g .mailed i l)) (a-voter (c .followers) i (serverAt c i) (g .primaries-vote i l)))))
 
-    past-place : (i : ℕ) → c .count ≤ i → i < mostServers → serverOk (c .count) i (serverAt c i) ≡ true
+    past-place : (i : ℕ) → c .count ≤ i → i < mostServers → serverOk (c .count) (c .followers) i (serverAt c i) ≡ true
     past-place i l m = rw (le-ltb i (c .count) l) (and-both _ _ (zero-rows (serverAt c i) (g .past i l m)) (good-past i (serverAt c i) (g .past i l m)))

@@ -1,6 +1,6 @@
--- The language's count of a mask's ones is the number of members; two majorities share a member. Assumes nothing.
+-- The language's count of a mask's ones is the number of members; two majorities share a member that votes. Assumes nothing.
 use mathlib.Core.Path.{_≡_, refl, ap, ap₂, sym, _∙_}
-use mathlib.Core.Bool.{Bool, true, false, cond, not, _||_}
+use mathlib.Core.Bool.{Bool, true, false, cond, not, _&&_, _||_}
 use mathlib.Core.Logic.{⊎-elim}
 use Prim.Native.Nat.{ℕ, zero, suc, _/_, _%_, _^_, _+_, _-_, _*_, _<_, _≤_}
 use native.Mathlib.Nat.{pow-suc, mul-comm, div-div-eq-div-mul, div-eq-of-lt, div-lt-iff-lt-mul, lt-of-lt-of-le}
@@ -8,13 +8,13 @@ use native.Mathlib.Omega.{arith}
 use lib.Dec.{eqb, ltb}
 use lib.Count.{ones, onesIn, ones-step}
 use lib.Pow.{pow-mono, pow-pos}
-use borrow.Author.Tests.{eqb-false, ltb-true, ne-eqb, lt-ltb, eq-eqb}
+use borrow.Author.Tests.{eqb-false, ltb-true, ne-eqb, lt-ltb, eq-eqb, not-true}
 use Rattle.base.specs.Numbers.{count}
-use Rattle.base.proofs.Bools.{or-right, not-both}
-use Rattle.base.proofs.Counting.{Both, count-meet, count-le}
+use Rattle.base.proofs.Bools.{and-both, and-right, or-right, not-both}
+use Rattle.base.proofs.Counting.{Both, count-meet, count-le, count-mono}
 use Rattle.base.proofs.Every.{every-at, every-all}
 use Rattle.base.proofs.Facts.{lt-or-le}
-use Rattle.cluster.specs.Sets.{member, bits, membersOf, isWithin, mostOf}
+use Rattle.cluster.specs.Sets.{member, bits, membersOf, isWithin, isApart, votes, voters, votersWith, mostOf}
 
 -- ---- the number of members
 
@@ -139,7 +139,27 @@ within-count m n h l w = ap (λ (k : ℕ). count k (member m)) (let z : bits ≡
 
 -- ---- majorities
 
--- two majorities share a member
-pub majorities-meet : (p q : ℕ → Bool) (n : ℕ) → mostOf n (count n p) ≡ true → mostOf n (count n q) ≡ true → Both n p q
-majorities-meet p q n hp hq =
-    count-meet p q n (omega (arith, ltb-true n (count n p * 2) hp, ltb-true n (count n q * 2) hq))
+-- a member is no follower
+pub apart-member : (m f i : ℕ) → m < 2 ^ bits → isApart m f ≡ true → member m i ≡ true → member f i ≡ false
+unfolding isApart
+apart-member m f i h a e = ⊎-elim go (λ l. not-both (member m i) e (member-below m bits i h l)) (lt-or-le i bits)
+  where
+    go : i < bits → member f i ≡ false
+    go l = not-true (member f i) (rw e at (every-at _ bits i a l))
+
+-- so a set of voters within n is counted whole where voters are
+pub voters-members : (m f n : ℕ) → m < 2 ^ bits → n ≤ bits → isWithin m n ≡ true → isApart m f ≡ true → membersOf m ≡ votersWith n f (member m)
+voters-members m f n h l w a =
+    omega (
+      arith,
+      within-count m n h l w,
+      count-mono (member m) (λ i. votes f i && member m i) n (λ i k e. and-both _ _ (ap not (apart-member m f i h a e)) e),
+      count-mono (λ i. votes f i && member m i) (member m) n (λ i k e. and-right (votes f i) _ e),
+    )
+
+-- two majorities share a member that votes
+pub majorities-meet : (n f : ℕ) (p q : ℕ → Bool) → mostOf (voters n f) (votersWith n f p) ≡ true → mostOf (voters n f) (votersWith n f q) ≡ true
+    → Both n (λ i. votes f i && p i) (λ i. votes f i && q i)
+majorities-meet n f p q hp hq =
+    count-meet (votes f) p q n
+    (omega (arith, ltb-true (voters n f) (votersWith n f p * 2) hp, ltb-true (voters n f) (votersWith n f q * 2) hq))

@@ -5,8 +5,9 @@ use Rattle.cluster.specs.declared.Cluster.{Cluster}
 use Rattle.log.specs.declared.Log.{Log}
 use Rattle.cluster.specs.declared.Server.{Server}
 use Rattle.cluster.specs.Servers.{clockedOf, clocksSet, committedTo, electedAll, freshCluster, freshServer, mostServers, rowedAll, rowedOf, startedOf, votedOf, withServer, zeroCluster}
-use Rattle.cluster.specs.Sets.{isMajority, isWithin, member, membersOf}
-use Rattle.cluster.specs.WellFormed.{countedOk, numbersOk, serverOk, wellFormed, zeroOk}
+use Rattle.cluster.specs.Sets.{isApart, isMajority, isWithin, member, membersOf, votes}
+use Rattle.cluster.specs.Sets as sets
+use Rattle.cluster.specs.WellFormed.{countedOk, numbersOk, serverOk, sizeOk, wellFormed, zeroOk}
 use Rattle.cluster.proofs.committed_to.Reads as committed-to-reads
 use Rattle.cluster.proofs.rowed.Reads as rowed-reads
 use Rattle.cluster.proofs.rowed_all.Reads as rowed-all-reads
@@ -24,10 +25,14 @@ use Rattle.cluster.proofs.numbers_ok.Reads as numbers-ok-reads
 use Rattle.cluster.proofs.counted_ok.Reads as counted-ok-reads
 use Rattle.cluster.proofs.zero_ok.Reads as zero-ok-reads
 use Rattle.cluster.proofs.server_ok.Reads as server-ok-reads
+use Rattle.cluster.proofs.size_ok.Reads as size-ok-reads
 use Rattle.cluster.proofs.well_formed.Reads as well-formed-reads
 use Rattle.cluster.proofs.sets.is_member.Reads as is-member-reads
 use Rattle.cluster.proofs.sets.members.Reads as members-reads
 use Rattle.cluster.proofs.sets.within.Reads as within-reads
+use Rattle.cluster.proofs.sets.apart.Reads as apart-reads
+use Rattle.cluster.proofs.sets.does_vote.Reads as does-vote-reads
+use Rattle.cluster.proofs.sets.voters.Reads as voters-reads
 use Rattle.cluster.proofs.sets.majority.Reads as majority-reads
 
 pub fresh-server : OneResult (λ x. fresh-server-reads.Learnt tt tt x tt)
@@ -42,8 +47,8 @@ zero-cluster = one-result zeroCluster
 pub started : (s : Server) (i n : ℕ) → OneResult (λ x. started-reads.Learnt tt (s, (i, (n, tt))) x (s, (i, (n, tt))))
 started s i n = one-result (startedOf n i s)
 
-pub fresh-cluster : (n : ℕ) → OneResult (λ x. fresh-cluster-reads.Learnt tt (n, tt) x (n, tt))
-fresh-cluster n = one-result (freshCluster n)
+pub fresh-cluster : (n followers : ℕ) → OneResult (λ x. fresh-cluster-reads.Learnt tt (n, (followers, tt)) x (n, (followers, tt)))
+fresh-cluster n followers = one-result (freshCluster n followers)
 
 pub with-server : (c : Cluster) (i : ℕ) (s : Server) → OneResult (λ x. with-server-reads.Learnt tt (c, (i, (s, tt))) x (c, (i, (s, tt))))
 with-server c i s = one-result (withServer c i s)
@@ -69,8 +74,11 @@ counted-ok s = one-result (countedOk s)
 pub zero-ok : (s : Server) → OneResult (λ x. zero-ok-reads.Learnt tt (s, tt) x (s, tt))
 zero-ok s = one-result (zeroOk s)
 
-pub server-ok : (s : Server) (n i : ℕ) → OneResult (λ x. server-ok-reads.Learnt tt (s, (n, (i, tt))) x (s, (n, (i, tt))))
-server-ok s n i = one-result (serverOk n i s)
+pub server-ok : (s : Server) (n followers i : ℕ) → OneResult (λ x. server-ok-reads.Learnt tt (s, (n, (followers, (i, tt)))) x (s, (n, (followers, (i, tt)))))
+server-ok s n followers i = one-result (serverOk n followers i s)
+
+pub size-ok : (n followers : ℕ) → OneResult (λ x. size-ok-reads.Learnt tt (n, (followers, tt)) x (n, (followers, tt)))
+size-ok n followers = one-result (sizeOk n followers)
 
 pub well-formed : (c : Cluster) → OneResult (λ x. well-formed-reads.Learnt tt (c, tt) x (c, tt))
 well-formed c = one-result (wellFormed c)
@@ -84,8 +92,17 @@ members set = one-result (membersOf set)
 pub within : (set n : ℕ) → OneResult (λ x. within-reads.Learnt tt (set, (n, tt)) x (set, (n, tt)))
 within set n = one-result (isWithin set n)
 
-pub majority : (set count : ℕ) → OneResult (λ x. majority-reads.Learnt tt (set, (count, tt)) x (set, (count, tt)))
-majority set count = one-result (isMajority set count)
+pub apart : (set followers : ℕ) → OneResult (λ x. apart-reads.Learnt tt (set, (followers, tt)) x (set, (followers, tt)))
+apart set followers = one-result (isApart set followers)
+
+pub does-vote : (followers i : ℕ) → OneResult (λ x. does-vote-reads.Learnt tt (followers, (i, tt)) x (followers, (i, tt)))
+does-vote followers i = one-result (votes followers i)
+
+pub voters : (n followers : ℕ) → OneResult (λ x. voters-reads.Learnt tt (n, (followers, tt)) x (n, (followers, tt)))
+voters n followers = one-result (sets.voters n followers)
+
+pub majority : (set n : ℕ) → OneResult (λ x. majority-reads.Learnt tt (set, (n, tt)) x (set, (n, tt)))
+majority set n = one-result (isMajority set n)
 
 pub committed-to : (s : Server) (g : Log) (n : ℕ) → OneResult (λ x. committed-to-reads.Learnt tt (s, (g, (n, tt))) x (s, (g, (n, tt))))
 committed-to s g n = one-result (committedTo s g n)

@@ -2,6 +2,7 @@
 use mathlib.Core.Path.{_≡_}
 use Prim.Native.Nat.{ℕ, _<_, _≤_, _^_}
 use lib.ListN.{length}
+use Rattle.base.specs.Numbers.{byte}
 use Rattle.clock.specs.Times.{limit}
 use Rattle.clock.specs.Ranges.{FitsTime}
 use Rattle.log.specs.Ranges.{FitsLog, FitsRows}
@@ -25,5 +26,6 @@ pub record FitsServer (s : Server) : Type 0 where
 
 pub record Fits (c : Cluster) : Type 0 where
   pub count : c .count < 2 ^ 64
+  pub followers : c .followers < byte
   pub slots : length (c .servers) ≡ mostServers
   pub each : (i : ℕ) → i < mostServers → FitsServer (serverAt c i)

@@ -19,7 +19,7 @@ use Rattle.cluster.specs.declared.Server.{Server}
 use Rattle.cluster.specs.declared.Cluster.{Cluster}
 use Rattle.cluster.specs.declared.Change.{Change}
 use Rattle.cluster.specs.declared.Change.the-variants as C
-use Rattle.cluster.specs.Sets.{member}
+use Rattle.cluster.specs.Sets.{member, voters}
 
 -- a cluster has 2 to 7 servers
 abbrev pub fewestServers : ℕ
@@ -27,6 +27,10 @@ fewestServers = 2
 
 abbrev pub mostServers : ℕ
 mostServers = 7
+
+-- at least two servers vote
+abbrev pub fewestVoters : ℕ
+fewestVoters = 2
 
 -- what a step doesn't name is unchanged: a head, and a server, with one field changed
 abbrev pub withTerm : Head → ℕ → Head
@@ -85,23 +89,27 @@ pastServer =
 abbrev pub serverCount : Cluster → ℕ
 serverCount c = min (c .count) mostServers
 
+-- how many of them vote
+abbrev pub voterCount : Cluster → ℕ
+voterCount c = voters (serverCount c) (c .followers)
+
 abbrev pub serverAt : Cluster → ℕ → Server
 serverAt c i = getD (c .servers) i pastServer
 
 -- the record before the first start: all zero
 abbrev pub zeroCluster : Cluster
-zeroCluster = record { count = 0; servers = replicate mostServers zeroServer }
+zeroCluster = record { count = 0; followers = 0; servers = replicate mostServers zeroServer }
 
--- the fresh cluster of n servers: each of the first n is fresh, the others zero
+-- the fresh cluster of n servers with the followers f: each of the first n is fresh, the others zero
 unfoldable pub startedOf : ℕ → ℕ → Server → Server
 startedOf n i s = cond (ltb i n) freshServer s
 
-abbrev pub freshCluster : ℕ → Cluster
-freshCluster n = record { count = n; servers = each (startedOf n) (zeroCluster .servers) }
+abbrev pub freshCluster : ℕ → ℕ → Cluster
+freshCluster n f = record { count = n; followers = f; servers = each (startedOf n) (zeroCluster .servers) }
 
 -- server i replaced
 abbrev pub withServer : Cluster → ℕ → Server → Cluster
-withServer c i s = record { count = c .count; servers = set (c .servers) i s }
+withServer c i s = record { count = c .count; followers = c .followers; servers = set (c .servers) i s }
 
 -- server i after an election of a by the set m into the term t: every member has the term; a primary, other members secondary; a has no
 -- notes and no reports
@@ -110,14 +118,14 @@ votedOf a m t i s =
     cond (member m i) (withMail (withHead s (withPrimary (withTerm (s .head) t) (eqb i a))) (cond (eqb i a) (emptied (s .mail)) (s .mail))) s
 
 abbrev pub electedAll : Cluster → ℕ → ℕ → ℕ → Cluster
-electedAll c a m t = record { count = c .count; servers = each (votedOf a m t) (c .servers) }
+electedAll c a m t = record { count = c .count; followers = c .followers; servers = each (votedOf a m t) (c .servers) }
 
 -- server i with the wall clock w, where it is one of the first n
 unfoldable pub clockedOf : ℕ → ℕ → ℕ → Server → Server
 clockedOf n w i s = cond (ltb i n) (withHead s (withWall (s .head) w)) s
 
 abbrev pub clocksSet : Cluster → ℕ → Cluster
-clocksSet c w = record { count = c .count; servers = each (clockedOf (c .count) w) (c .servers) }
+clocksSet c w = record { count = c .count; followers = c .followers; servers = each (clockedOf (c .count) w) (c .servers) }
 
 -- the row of the committed beginning at a commit point n, in the log g: brought up from the one before by the entries between
 abbrev pub committedTo : Server → Log → ℕ → Latest
@@ -128,7 +136,7 @@ unfoldable pub rowedOf : Server → Server
 rowedOf s = withRows s (rowsOf (s .log) (s .head .commit))
 
 abbrev pub rowedAll : Cluster → Cluster
-rowedAll c = record { count = c .count; servers = each (λ i. rowedOf) (c .servers) }
+rowedAll c = record { count = c .count; followers = c .followers; servers = each (λ i. rowedOf) (c .servers) }
 
 -- what a start, an election, agreeing clocks and rows worked out afresh make of server i, for the one loop behind them
 abbrev pub changedOf : Change → ℕ → Server → Server
@@ -138,4 +146,4 @@ changedOf (C.Clock n w) = clockedOf n w
 changedOf C.Rowed = λ i. rowedOf
 
 abbrev pub changedAll : Change → Cluster → Cluster
-changedAll k c = record { count = c .count; servers = each (changedOf k) (c .servers) }
+changedAll k c = record { count = c .count; followers = c .followers; servers = each (changedOf k) (c .servers) }

@@ -1,5 +1,5 @@
--- Sets of servers as masks, and majorities, as 01 has them. Assumes nothing.
-use mathlib.Core.Bool.{Bool, not, _||_}
+-- Sets of servers as masks, which servers vote, and majorities, as 01 and [11] have them. Assumes nothing.
+use mathlib.Core.Bool.{Bool, not, _&&_, _||_}
 use Prim.Native.Nat.{ℕ, _/_, _%_, _^_, _*_}
 use lib.Dec.{eqb, ltb}
 use Rattle.base.specs.Numbers.{every, count}
@@ -20,9 +20,24 @@ membersOf m = count bits (member m)
 unfoldable pub isWithin : ℕ → ℕ → Bool
 isWithin m n = every bits (λ i. not (member m i) || ltb i n)
 
--- k of n servers are a majority: twice their number exceeds the server count
+-- no member is a follower
+unfoldable pub isApart : ℕ → ℕ → Bool
+isApart m f = every bits (λ i. not (member m i && member f i))
+
+-- a server votes unless it is a follower
+abbrev pub votes : ℕ → ℕ → Bool
+votes f i = not (member f i)
+
+-- how many of the first n servers vote, and how many of those pass
+abbrev pub voters : ℕ → ℕ → ℕ
+voters n f = count n (votes f)
+
+abbrev pub votersWith : ℕ → ℕ → (ℕ → Bool) → ℕ
+votersWith n f p = count n (λ i. votes f i && p i)
+
+-- k of v voting servers are a majority: twice their number exceeds the number of voters
 abbrev pub mostOf : ℕ → ℕ → Bool
-mostOf n k = ltb n (k * 2)
+mostOf v k = ltb v (k * 2)
 
 abbrev pub isMajority : ℕ → ℕ → Bool
-isMajority m n = mostOf n (membersOf m)
+isMajority m v = mostOf v (membersOf m)

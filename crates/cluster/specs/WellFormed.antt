@@ -1,4 +1,4 @@
--- Which records are well formed, as 01 words it, and 02 for notes, queues, sources and rows. Assumes nothing.
+-- Which records are well formed, as 01 words it, and 02 for notes, queues, sources, rows and followers. Assumes nothing.
 use mathlib.Core.Bool.{Bool, true, cond, not, _&&_}
 use Prim.Native.Nat.{ℕ}
 use lib.Dec.{eqb, ltb, leb}
@@ -11,7 +11,8 @@ use Rattle.log.specs.Rows.{rowsOk}
 use Rattle.mail.specs.Order.{mailOk}
 use Rattle.cluster.specs.declared.Server.{Server}
 use Rattle.cluster.specs.declared.Cluster.{Cluster}
-use Rattle.cluster.specs.Servers.{fewestServers, mostServers, serverAt}
+use Rattle.cluster.specs.Servers.{fewestServers, mostServers, fewestVoters, serverAt}
+use Rattle.cluster.specs.Sets.{member, isWithin, voters}
 
 -- the commit point is not above the length; a counted server's wall clock is at least 1; a primary's term is at least 1
 unfoldable pub numbersOk : Server → Bool
@@ -28,15 +29,21 @@ zeroOk s =
     isEmptyLog (s .log)
     && (eqb (s .head .term) 0 && (not (s .head .primary) && (eqb (s .head .commit) 0 && (eqb (s .head .wall) 0 && sameTime (s .head .time) zeroTime))))
 
--- server i, where so many are counted: past the count, where nobody is, its mail is all zero too. Both its rows have what a walk finds: past the
--- count, where there is no entry, nothing
-unfoldable pub serverOk : ℕ → ℕ → Server → Bool
-serverOk n i s =
-    rowsOk (s .rows) (s .log) (s .head .commit)
-    && cond (ltb i n) (countedOk s && mailOk n i (s .mail)) (zeroOk s && mailOk 0 i (s .mail))
+-- no follower is primary
+abbrev pub roleOk : ℕ → ℕ → Server → Bool
+roleOk f i s = not (s .head .primary && member f i)
 
--- the server count is 2 to 7, and each server is as its place asks
+-- server i, where so many are counted and these are the followers: past the count, where nobody is, its mail is all zero too. Both its rows have
+-- what a walk finds: past the count, where there is no entry, nothing
+unfoldable pub serverOk : ℕ → ℕ → ℕ → Server → Bool
+serverOk n f i s =
+    rowsOk (s .rows) (s .log) (s .head .commit)
+    && cond (ltb i n) (countedOk s && (mailOk n i (s .mail) && roleOk f i s)) (zeroOk s && mailOk 0 i (s .mail))
+
+-- a cluster has 2 to 7 servers, its followers are among them, and at least two servers vote
+unfoldable pub sizeOk : ℕ → ℕ → Bool
+sizeOk n f = leb fewestServers n && (leb n mostServers && (isWithin f n && leb fewestVoters (voters n f)))
+
+-- the record has such a size, and each server is as its place asks
 unfoldable pub wellFormed : Cluster → Bool
-wellFormed c =
-    leb fewestServers (c .count)
-    && (leb (c .count) mostServers && every mostServers (λ i. serverOk (c .count) i (serverAt c i)))
+wellFormed c = sizeOk (c .count) (c .followers) && every mostServers (λ i. serverOk (c .count) (c .followers) i (serverAt c i))

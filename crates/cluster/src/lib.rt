@@ -2,7 +2,7 @@
 ghost use mathlib.Core.Path.{_≡_};
 ghost use Prim.Native.Nat.{min};
 ghost use Rattle.cluster.specs.Servers.{mostServers, freshServer, zeroCluster, startedOf, freshCluster, withServer, votedOf, electedAll, clockedOf, clocksSet, committedTo, rowedOf, rowedAll, changedOf, changedAll};
-ghost use Rattle.cluster.specs.WellFormed.{numbersOk, countedOk, zeroOk, serverOk, wellFormed};
+ghost use Rattle.cluster.specs.WellFormed.{numbersOk, countedOk, zeroOk, roleOk, serverOk, sizeOk, wellFormed};
 use clock::Time;
 use log::Log;
 use log::rows::Latest;
@@ -28,8 +28,10 @@ pub struct Server {
     pub rows: Rows,
 }
 
+// How many servers there are, which of them are followers, and the servers.
 pub struct Cluster {
     pub count: usize,
+    pub followers: u8,
     pub servers: [Server; MOST_SERVERS],
 }
 
@@ -44,6 +46,8 @@ enum Change {
 pub const FEWEST_SERVERS: usize = 2;
 
 pub const MOST_SERVERS: usize = 7;
+
+pub const FEWEST_VOTERS: usize = 2;
 
 const ZERO_HEAD: Head = Head {
     term: 0,
@@ -70,6 +74,7 @@ pub const FRESH_SERVER: Server = Server {
 
 pub const ZERO_CLUSTER: Cluster = Cluster {
     count: 0,
+    followers: 0,
     servers: [ZERO_SERVER; MOST_SERVERS],
 };
 
@@ -208,12 +213,13 @@ fn change_all(c: Cluster, change: Change) -> Cluster
     d
 }
 
-// The fresh cluster of n servers.
-pub fn fresh_cluster(n: usize) -> Cluster
-    ensures { λ r. ⌜ r ≡ freshCluster n ⌝ }
+// The fresh cluster of n servers with these followers.
+pub fn fresh_cluster(n: usize, followers: u8) -> Cluster
+    ensures { λ r. ⌜ r ≡ freshCluster n followers ⌝ }
 {
     let mut c = ZERO_CLUSTER;
     c.count = n;
+    c.followers = followers;
     change_all(c, Change::Start(n))
 }
 
@@ -296,9 +302,19 @@ pub fn zero_ok(s: Server) -> bool
     clock::same_time(t, clock::ZERO_TIME)
 }
 
-// Whether server i may stand there where so many are counted.
-pub fn server_ok(s: Server, n: usize, i: usize) -> bool
-    ensures { λ r. ⌜ r ≡ serverOk n i s ⌝ }
+// Whether server i, if it is primary, is no follower.
+fn role_ok(s: Server, followers: u8, i: usize) -> bool
+    ensures { λ r. ⌜ r ≡ roleOk followers i s ⌝ }
+{
+    if !s.head.primary {
+        return true;
+    }
+    sets::does_vote(followers, i)
+}
+
+// Whether server i may stand there where so many are counted and these are the followers.
+pub fn server_ok(s: Server, n: usize, followers: u8, i: usize) -> bool
+    ensures { λ r. ⌜ r ≡ serverOk n followers i s ⌝ }
 {
     let g = s.log;
     let rows = s.rows;
@@ -310,7 +326,10 @@ pub fn server_ok(s: Server, n: usize, i: usize) -> bool
         if !counted_ok(s) {
             return false;
         }
-        return mail::mail_ok(m, n, i);
+        if !mail::mail_ok(m, n, i) {
+            return false;
+        }
+        return role_ok(s, followers, i);
     }
     if !zero_ok(s) {
         return false;
@@ -318,21 +337,35 @@ pub fn server_ok(s: Server, n: usize, i: usize) -> bool
     mail::mail_ok(m, 0, i)
 }
 
+// Whether a cluster may have so many servers, these of them followers.
+pub fn size_ok(n: usize, followers: u8) -> bool
+    ensures { λ r. ⌜ r ≡ sizeOk n followers ⌝ }
+{
+    if n < FEWEST_SERVERS {
+        return false;
+    }
+    if MOST_SERVERS < n {
+        return false;
+    }
+    if !sets::within(followers, n) {
+        return false;
+    }
+    FEWEST_VOTERS <= sets::voters(n, followers)
+}
+
 // Whether a record is well formed; total on any record at all.
 pub fn well_formed(c: Cluster) -> bool
     ensures { λ r. ⌜ r ≡ wellFormed c ⌝ }
 {
     let count = c.count;
-    if count < FEWEST_SERVERS {
-        return false;
-    }
-    if MOST_SERVERS < count {
+    let followers = c.followers;
+    if !size_ok(count, followers) {
         return false;
     }
     let mut i = 0;
     while i < MOST_SERVERS {
         let s = c.servers[i];
-        if !server_ok(s, count, i) {
+        if !server_ok(s, count, followers, i) {
             return false;
         }
         i += 1;

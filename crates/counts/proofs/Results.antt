@@ -12,8 +12,9 @@ use Rattle.counts.proofs.advances.advances.Reads as advances-reads
 pub does-back : (s : Server) (a n i : ℕ) → OneResult (λ x. does-back-reads.Learnt tt (s, (a, (n, (i, tt)))) x (s, (a, (n, (i, tt)))))
 does-back s a n i = one-result (backs s a n i)
 
-pub highest-passing : (n : ℕ) (s : Server) (a : ℕ) → OneResult (λ x. highest-passing-reads.Learnt tt (n, (s, (a, tt))) x (n, (s, (a, tt))))
-highest-passing n s a = one-result (highestPassing (min n mostServers) s a)
+pub highest-passing : (n followers : ℕ) (s : Server) (a : ℕ)
+    → OneResult (λ x. highest-passing-reads.Learnt tt (n, (followers, (s, (a, tt)))) x (n, (followers, (s, (a, tt)))))
+highest-passing n followers s a = one-result (highestPassing (min n mostServers) followers s a)
 
 pub advances : (c : Cluster) (a : ℕ) → OneResult (λ x. advances-reads.Learnt tt (c, (a, tt)) x (c, (a, tt)))
 advances c a = one-result (advancesOf c a)

@@ -1,7 +1,9 @@
 // Kind 7: a advances its commit point.
 ghost use mathlib.Core.Path.{_≡_};
+ghost use mathlib.Core.Bool.{_&&_};
 ghost use Prim.Native.Nat.{min};
 ghost use Rattle.cluster.specs.Servers.{mostServers};
+ghost use Rattle.cluster.specs.Sets.{votes};
 ghost use Rattle.counts.specs.Advances.{backs, highestPassing, advancesOf};
 use cluster::Cluster;
 use cluster::Head;
@@ -29,11 +31,23 @@ pub fn does_back(s: Server, a: usize, n: usize, i: usize) -> bool
     n <= note.len as usize
 }
 
-// The highest position that passes at s, which is server a where so many are counted, looked for from the log's end; 0 if none does.
-pub fn highest_passing(count: usize, s: Server, a: usize) -> usize
-    ensures { λ r. ⌜ r ≡ highestPassing (min count mostServers) s a ⌝ }
+// Whether server i votes, and counts for position n at s.
+fn is_backer(followers: u8, s: Server, a: usize, n: usize, i: usize) -> bool
+    ensures { λ r. ⌜ r ≡ (votes followers i && backs s a n i) ⌝ }
+{
+    if !cluster::sets::does_vote(followers, i) {
+        return false;
+    }
+    does_back(s, a, n, i)
+}
+
+// The highest position that passes at s, which is server a where so many are counted and these are the followers, looked for from the log's end; 0
+// if none does.
+pub fn highest_passing(count: usize, followers: u8, s: Server, a: usize) -> usize
+    ensures { λ r. ⌜ r ≡ highestPassing (min count mostServers) followers s a ⌝ }
 {
     let size = cluster::server_count(count);
+    let voters = cluster::sets::voters(size, followers);
     let g = s.log;
     let mut n = log::length_of(g);
     let found = loop {
@@ -43,14 +57,14 @@ pub fn highest_passing(count: usize, s: Server, a: usize) -> usize
         let mut k = 0;
         let mut i = 0;
         while i < size {
-            if does_back(s, a, n, i) {
+            if is_backer(followers, s, a, n, i) {
                 k += 1;
             }
             i += 1;
         }
         let e = log::entry_at(g, n);
         if e.term == s.head.term {
-            if size < k * 2 {
+            if voters < k * 2 {
                 break n;
             }
         }
@@ -69,7 +83,7 @@ pub fn advances(c: Cluster, a: usize) -> Outcome
     if !s.head.primary {
         return steps::refuse_all(c, Refusal::WrongRole);
     }
-    let n = highest_passing(c.count, s, a);
+    let n = highest_passing(c.count, c.followers, s, a);
     if n < 1 {
         return steps::refuse_all(c, Refusal::ConditionUnmet);
     }

@@ -43,7 +43,7 @@ fn number(words: &[u8], n: usize) {
 
 // Each reader is given to this record: two servers after a start.
 fn given() -> Cluster {
-    let o = rules::step(cluster::zero_cluster(), Step::Start(2));
+    let o = rules::step(cluster::zero_cluster(), Step::Start(2, 0));
     o.cluster
 }
 

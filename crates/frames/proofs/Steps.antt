@@ -33,7 +33,7 @@ Written s = (isClean (frameFor s .kind) (bytesOfFrame (frameFor s)) ≡ true) ×
 
 written : (s : Step) → Written s
 unfolding Written isClean every bytesOfFrame highOf lowOf stepOfFrame
-written (Start a) = (refl, refl)
+written (Start a set) = (refl, refl)
 written (Elect a set) = (refl, refl)
 written (StepDown a) = (refl, refl)
 written (Hears a b) = (refl, refl)
@@ -62,7 +62,7 @@ makes : (k : ℕ) → k < kinds → MakesAt k
 unfolding MakesAt Makes bytesOfFrame highOf lowOf stepOfFrame
 makes =
     case-at MakesAt kinds
-    ((λ a b set key number term t. (Start a, (refl, refl, λ h. omega arith)))
+    ((λ a b set key number term t. (Start a set, (refl, refl, λ h. omega arith)))
     ▸ (λ a b set key number term t. (Elect a set, (refl, refl, λ h. omega arith)))
     ▸ (λ a b set key number term t. (StepDown a, (refl, refl, λ h. omega arith)))
     ▸ (λ a b set key number term t. (Hears a b, (refl, refl, λ h. omega arith)))

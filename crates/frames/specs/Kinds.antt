@@ -20,7 +20,7 @@ kinds = 17
 -- the step that each kind makes of the fields that it uses, from kind 0 to 16
 abbrev pub stepsOf : Frame → List ReadStep
 stepsOf f =
-    R.Step (Start (f .a))
+    R.Step (Start (f .a) (f .set))
     ∷ R.Step (Elect (f .a) (f .set))
     ∷ R.Step (StepDown (f .a))
     ∷ R.Step (Hears (f .a) (f .b))

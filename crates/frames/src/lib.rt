@@ -78,7 +78,7 @@ fn step_of(f: Frame) -> ReadStep
     let kind = f.kind;
     let t = f.time;
     match kind {
-        START => ReadStep::Step(Step::Start(f.a)),
+        START => ReadStep::Step(Step::Start(f.a, f.set)),
         ELECT => ReadStep::Step(Step::Elect(f.a, f.set)),
         STEP_DOWN => ReadStep::Step(Step::StepDown(f.a)),
         HEARS => ReadStep::Step(Step::Hears(f.a, f.b)),
@@ -155,7 +155,7 @@ fn frame_for(s: Step) -> Frame
     ensures { λ r. ⌜ r ≡ frameFor s ⌝ }
 {
     match s {
-        Step::Start(a) => fields(START, a, 0, 0, 0, 0, 0, ZERO_TIME),
+        Step::Start(a, set) => fields(START, a, 0, set, 0, 0, 0, ZERO_TIME),
         Step::Elect(a, set) => fields(ELECT, a, 0, set, 0, 0, 0, ZERO_TIME),
         Step::StepDown(a) => fields(STEP_DOWN, a, 0, 0, 0, 0, 0, ZERO_TIME),
         Step::Hears(a, b) => fields(HEARS, a, b, 0, 0, 0, 0, ZERO_TIME),

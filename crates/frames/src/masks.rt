@@ -10,7 +10,7 @@ pub(crate) const KINDS: usize = 17;
 
 // For each kind, which bytes must be zero: bit i is byte i.
 const MUST_BE_ZERO: [u16; KINDS] = [
-    0x1ffc,
+    0x1ff4,
     0x1ff4,
     0x1ffc,
     0x1ff8,

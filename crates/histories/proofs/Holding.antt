@@ -29,7 +29,7 @@ use Rattle.cluster.specs.declared.Cluster.{Cluster}
 use Rattle.cluster.specs.Servers.{fewestServers, mostServers, serverAt, freshCluster, withServer}
 use Rattle.cluster.specs.Ranges.{FitsServer, Fits}
 use Rattle.cluster.proofs.Changed.{replaced-here, replaced-others}
-use Rattle.cluster.proofs.Fresh.{good-fresh, fits-fresh}
+use Rattle.cluster.proofs.Fresh.{good-fresh, fits-fresh, two-vote}
 use Rattle.cluster.proofs.Good.{ServerGood, Good, good, well-formed}
 use Rattle.histories.specs.Committed.{Committed, committedLimit, entriesOf}
 use Rattle.histories.proofs.Lent.{length-together}
@@ -42,7 +42,7 @@ abbrev holder : List Entry → Server
 holder es = record { head = record { term = limit; primary = false; commit = 0; wall = 1; time = appliedTime es }; log = logOf es; mail = zeroMail; rows = rowsOf (logOf es) 0 }
 
 abbrev record-of : List Entry → Cluster
-record-of es = withServer (freshCluster fewestServers) 0 (holder es)
+record-of es = withServer (freshCluster fewestServers 0) 0 (holder es)
 
 module _ (es : List Entry) (short : length es ≤ committedLimit) (order : Orderly limit es) (each-fits : (n : ℕ) → FitsEntry (entryAt es n)) where
   -- one log keeps them all
@@ -83,34 +83,37 @@ module _ (es : List Entry) (short : length es ≤ committedLimit) (order : Order
       fits-log = record { slots = tidy-logOf es room .slots; len = omega arith; each = slot }
 
   at-first : serverAt (record-of es) 0 ≡ holder es
-  at-first = replaced-here (freshCluster fewestServers) 0 (holder es) (omega (arith, fits-fresh fewestServers (omega arith) .slots))
+  at-first = replaced-here (freshCluster fewestServers 0) 0 (holder es) (omega (arith, fits-fresh fewestServers 0 (omega arith) (omega arith) .slots))
 
-  at-others : (i : ℕ) → 1 ≤ i → serverAt (record-of es) i ≡ serverAt (freshCluster fewestServers) i
-  at-others i h = replaced-others (freshCluster fewestServers) 0 (holder es) i (λ z. omega arith)
+  at-others : (i : ℕ) → 1 ≤ i → serverAt (record-of es) i ≡ serverAt (freshCluster fewestServers 0) i
+  at-others i h = replaced-others (freshCluster fewestServers 0) 0 (holder es) i (λ z. omega arith)
 
   good-record : Good (record-of es)
   good-record =
       record {
+        size = two-vote;
         at-least-two = omega arith;
         at-most-seven = omega arith;
         counted = λ i l. ⊎-elim (λ z. let e : i ≡ 0 = omega arith in rw (e, at-first) good-holder) (λ o. rw (at-others i o) (fresh .counted i l)) (lt-or-le i 1);
         mailed = λ i l. ⊎-elim (λ z. let e : i ≡ 0 = omega arith in rw (e, at-first) zero-good) (λ o. rw (at-others i o) (fresh .mailed i l)) (lt-or-le i 1);
+        primaries-vote = λ i l p. ⊎-elim (λ z. let e : i ≡ 0 = omega arith in not-both false (rw (e, at-first) at p) refl) (λ o. fresh .primaries-vote i l (rw (at-others i o) at p)) (lt-or-le i 1);
         past = λ i l m. at-others i (omega arith) ∙ fresh .past i l m;
       }
     where
-      fresh : Good (freshCluster fewestServers)
-      fresh = good-fresh fewestServers (omega arith) (omega arith)
+      fresh : Good (freshCluster fewestServers 0)
+      fresh = good-fresh fewestServers 0 two-vote
 
   fits-record : Fits (record-of es)
   fits-record =
       record {
         count = omega arith;
-        slots = length-set (freshCluster fewestServers .servers) 0 (holder es) ∙ fresh .slots;
+        followers = omega arith;
+        slots = length-set (freshCluster fewestServers 0 .servers) 0 (holder es) ∙ fresh .slots;
         each = λ i l. ⊎-elim (λ z. let e : i ≡ 0 = omega arith in rw (e, at-first) fits-holder) (λ o. rw (at-others i o) (fresh .each i l)) (lt-or-le i 1);
       }
     where
-      fresh : Fits (freshCluster fewestServers)
-      fresh = fits-fresh fewestServers (omega arith)
+      fresh : Fits (freshCluster fewestServers 0)
+      fresh = fits-fresh fewestServers 0 (omega arith) (omega arith)
 
   held : HeldBy es
   held =

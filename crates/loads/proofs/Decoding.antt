@@ -39,10 +39,11 @@ use Rattle.cluster.proofs.Changed.{replaced-here}
 use Rattle.cluster.proofs.Good.{good}
 use Rattle.cluster.proofs.Sound.{ServerSound, Sound, sound-rows}
 use Rattle.saved.specs.declared.Sort.the-variants as S
-use Rattle.saved.specs.Layout.{Widths, numbersIn, serverNumbers, firstFrame, serverFrame, entryFrame, noteFrame, reportFrame}
-use Rattle.saved.specs.Editions.{Edition}
+use Rattle.saved.specs.Layout.{Widths, frame, numbersIn, serverNumbers, firstFrame, serverFrame, entryFrame, noteFrame, reportFrame}
+use Rattle.saved.specs.Editions.{Edition, allowsFollowers}
 use Rattle.saved.specs.Saved.{noteFrames, queuedReports, serverFrames, allFrames, framesOf, savedAs}
 use Rattle.saved.proofs.Lawful.{Lawful}
+use Rattle.saved.proofs.First.{firstNumbers, first-taken, first-long, first-size, first-followers}
 use Rattle.saved.proofs.Frames.{saved-frames}
 use Rattle.loads.specs.declared.Draft.{Draft}
 use Rattle.loads.specs.Decoded.{headSaid, toldBy, counting, beginning, telling, withFrame, roomy, decodedBy, freshDraft, draftedIn, decodedIn}
@@ -72,7 +73,7 @@ module _ {w : Widths} (l : Lawful w) (c : Cluster) (i : ℕ) (slots : length (c 
       let e : i + 1 - 1 ≡ i = omega arith in
       let here : serverAt (withServer c i s) i ≡ s = replaced-here c i s (omega arith) in
       rw (le-leb 1 (i + 1) (omega arith), le-leb (i + 1) mostServers (omega arith), e, here)
-      (λ k. record { cluster = record { count = c .count; servers = set-set (c .servers) i s (toldBy w s bs) k }; begun = i + 1 })
+      (λ k. record { cluster = record { count = c .count; followers = c .followers; servers = set-set (c .servers) i s (toldBy w s bs) k }; begun = i + 1 })
 
   -- ---- entries
 
@@ -168,7 +169,7 @@ module _ {w : Widths} (l : Lawful w) (c : Cluster) (i : ℕ) (slots : length (c 
 -- ---- the record
 
 servers : {w : Widths} → Lawful w → (c : Cluster) (i : ℕ) (ss : List Server) → length (c .servers) ≡ mostServers → i + length ss ≤ mostServers → AllCount ss
-    → decodedBy w (record { cluster = c; begun = i }) (allFrames w ss) ≡ record { cluster = record { count = c .count; servers = sets (c .servers) i (map unrowed ss) }; begun = i + length ss }
+    → decodedBy w (record { cluster = c; begun = i }) (allFrames w ss) ≡ record { cluster = record { count = c .count; followers = c .followers; servers = sets (c .servers) i (map unrowed ss) }; begun = i + length ss }
 servers l c i [] slots room x = ap (λ (k : ℕ). record { cluster = c; begun = k }) (sym (add-zero i))
 servers {w} l c i (s ∷ ss) slots room x =
     decoded-append w (record { cluster = c; begun = i }) (serverFrames w s) (allFrames w ss)
@@ -176,34 +177,41 @@ servers {w} l c i (s ∷ ss) slots room x =
     ∙ servers l (withServer c i (unrowed s)) (i + 1) ss (length-set (c .servers) i (unrowed s) ∙ slots) (omega arith) (λ k l. x (suc k) (omega arith))
     ∙ more
   where
-    more : _≡_ {A = Draft} (record { cluster = record { count = c .count; servers = sets (set (c .servers) i (unrowed s)) (i + 1) (map unrowed ss) }; begun = i + 1 + length ss })
-        (record { cluster = record { count = c .count; servers = sets (set (c .servers) i (unrowed s)) (suc i) (map unrowed ss) }; begun = i + suc (length ss) })
+    more : _≡_ {A = Draft} (record { cluster = record { count = c .count; followers = c .followers; servers = sets (set (c .servers) i (unrowed s)) (i + 1) (map unrowed ss) }; begun = i + 1 + length ss })
+        (record { cluster = record { count = c .count; followers = c .followers; servers = sets (set (c .servers) i (unrowed s)) (suc i) (map unrowed ss) }; begun = i + suc (length ss) })
     more =
         let a = add-one i in
         let e : i + 1 + length ss ≡ i + suc (length ss) = omega arith in
-        λ k. record { cluster = record { count = c .count; servers = sets (set (c .servers) i (unrowed s)) (a k) (map unrowed ss) }; begun = e k }
+        λ k. record { cluster = record { count = c .count; followers = c .followers; servers = sets (set (c .servers) i (unrowed s)) (a k) (map unrowed ss) }; begun = e k }
 
--- the first frame tells the server count
-first-counts : {w : Widths} → Lawful w → (edition size : ℕ) → withFrame w freshDraft (roomy (firstFrame w edition size)) ≡ counting freshDraft size
+-- the first frame tells the server count and the followers
+first-counts : {w : Widths} → Lawful w → (edition size followers : ℕ) → allowsFollowers w followers ≡ true
+    → withFrame w freshDraft (roomy (firstFrame w edition size followers)) ≡ counting freshDraft size followers
 unfolding withFrame
-first-counts l edition size =
-    let ns = edition ∷ size ∷ [] in
-    rw (sort-read l S.First ns (sym (l .first-long))) (ap (λ (x : List ℕ). counting freshDraft (byteAt x 1)) (numbers-read l S.First ns (sym (l .first-long))))
+first-counts {w} l edition size followers h =
+    let long = first-long w edition size followers (l .first) in
+    let told : withFrame w freshDraft (roomy (frame w S.First ns)) ≡ counting freshDraft (byteAt ns 1) (byteAt ns 2) =
+    rw (sort-read l S.First ns long) (ap (λ (x : List ℕ). counting freshDraft (byteAt x 1) (byteAt x 2)) (numbers-read l S.First ns long)) in
+    ap (λ (f : List ℕ). withFrame w freshDraft (roomy f)) (first-taken w edition size followers) ∙ told
+    ∙ cc (first-size w edition size followers (l .first), first-followers w edition size followers (l .first) h)
+  where
+    ns : List ℕ
+    ns = firstNumbers w edition size followers
 
 -- a record whose servers have no rows
 abbrev unrowedAll : Cluster → Cluster
-unrowedAll c = record { count = c .count; servers = map unrowed (c .servers) }
+unrowedAll c = record { count = c .count; followers = c .followers; servers = map unrowed (c .servers) }
 
--- the frames of a well-formed record that fits decode to it, but for its rows, in every edition
-frames-decoded : (e : Edition) → Lawful (e .widths) → (c : Cluster) → Sound c → decodedBy (e .widths) freshDraft (framesOf e c) .cluster ≡ unrowedAll c
-frames-decoded e l c h =
+-- the frames of a well-formed record that fits decode to it, but for its rows, in every edition that tells its followers
+frames-decoded : (e : Edition) → Lawful (e .widths) → (c : Cluster) → Sound c → allowsFollowers (e .widths) (c .followers) ≡ true → decodedBy (e .widths) freshDraft (framesOf e c) .cluster ≡ unrowedAll c
+frames-decoded e l c h told =
     let whole =
     refilled pastServer zeroServer mostServers (c .count) (map unrowed (c .servers)) (length-map (c .servers) unrowed ∙ h .fits .slots) (h .good .at-most-seven) past in
     ap (λ (d : Draft). d .cluster)
-    (ap (λ (d : Draft). decodedBy (e .widths) d (allFrames (e .widths) (counted c))) (first-counts l (e .number) (c .count))
-    ∙ servers l (record { count = c .count; servers = replicate mostServers zeroServer }) 0 (counted c) refl (omega (arith, counted-long h, h .good .at-most-seven)) (all-count h))
-    ∙ (λ k. record { count = c .count; servers = sets (replicate mostServers zeroServer) 0 (taken-map unrowed (c .count) (c .servers) k) })
-    ∙ (λ k. record { count = c .count; servers = whole k })
+    (ap (λ (d : Draft). decodedBy (e .widths) d (allFrames (e .widths) (counted c))) (first-counts l (e .number) (c .count) (c .followers) told)
+    ∙ servers l (record { count = c .count; followers = c .followers; servers = replicate mostServers zeroServer }) 0 (counted c) refl (omega (arith, counted-long h, h .good .at-most-seven)) (all-count h))
+    ∙ (λ k. record { count = c .count; followers = c .followers; servers = sets (replicate mostServers zeroServer) 0 (taken-map unrowed (c .count) (c .servers) k) })
+    ∙ (λ k. record { count = c .count; followers = c .followers; servers = whole k })
   where
     past : (i : ℕ) → c .count ≤ i → i < mostServers → getD (map unrowed (c .servers)) i pastServer ≡ zeroServer
     past i k m = map-at unrowed (c .servers) i pastServer pastServer (omega (arith, h .fits .slots)) ∙ ap unrowed (h .good .past i k m)
@@ -216,7 +224,7 @@ rowed-again c h =
     ext-getD pastServer (rowedAll (unrowedAll c) .servers) (c .servers) (length-eachFrom _ 0 _ ∙ length-map (c .servers) unrowed)
     (λ i l. each-at (λ i. rowedOf) (map unrowed (c .servers)) i pastServer (omega (arith, length-eachFrom (λ i. rowedOf) 0 (map unrowed (c .servers))))
     ∙ ap rowedOf (map-at unrowed (c .servers) i pastServer pastServer (long i l)) ∙ again i (omega (arith, long i l, h .fits .slots))) in
-    λ k. record { count = c .count; servers = same k }
+    λ k. record { count = c .count; followers = c .followers; servers = same k }
   where
     long : (i : ℕ) → i < length (rowedAll (unrowedAll c) .servers) → i < length (c .servers)
     long i l = omega (arith, length-eachFrom (λ i. rowedOf) 0 (map unrowed (c .servers)), length-map (c .servers) unrowed)
@@ -224,9 +232,10 @@ rowed-again c h =
     again : (i : ℕ) → i < mostServers → rowedOf (unrowed (serverAt c i)) ≡ serverAt c i
     again i m = ap (withRows (serverAt c i)) (sym (rows-are (h .fits .each i m .rows) (sound-rows h i m)))
 
--- THE LAW: the saved form of a well-formed record that fits decodes to it
-pub saved-decoded : (e : Edition) → Lawful (e .widths) → e .number < byte → (c : Cluster) → Fits c → wellFormed c ≡ true → decodedIn (e .widths) (savedAs e c) ≡ c
+-- THE LAW: the saved form of a well-formed record that fits decodes to it, where its followers are told
+pub saved-decoded : (e : Edition) → Lawful (e .widths) → e .number < byte → (c : Cluster) → Fits c → wellFormed c ≡ true → allowsFollowers (e .widths) (c .followers) ≡ true
+    → decodedIn (e .widths) (savedAs e c) ≡ c
 unfolding draftedIn decodedIn
-saved-decoded e l b c f h =
+saved-decoded e l b c f h told =
     let s : Sound c = record { fits = f; good = good c f h } in
-    ap (λ (fs : List (List ℕ)). rowedAll (decodedBy (e .widths) freshDraft fs .cluster)) (saved-frames c f h e b l) ∙ ap (λ (d : Cluster). rowedAll d) (frames-decoded e l c s) ∙ rowed-again c s
+    ap (λ (fs : List (List ℕ)). rowedAll (decodedBy (e .widths) freshDraft fs .cluster)) (saved-frames c f h e b l) ∙ ap (λ (d : Cluster). rowedAll d) (frames-decoded e l c s told) ∙ rowed-again c s

@@ -32,7 +32,7 @@ reporting who n = record { who = who; term = n .term; last = n .last; len = n .l
 
 module _ {w : Widths} (l : Lawful w) (k : Sort) (ns : List ℕ) (long : length ns ≡ length (w k)) where
   frame-at : (i : ℕ) → byteAt (roomy (frame w k ns)) i ≡ byteAt (frame w k ns) i
-  frame-at i = over-zeros mostBytes (frame w k ns) (omega (arith, written-size (w k) ns long, l .small k)) i
+  frame-at i = over-zeros mostBytes (frame w k ns) i (λ _. omega (arith, written-size (w k) ns long, l .small k))
 
   pub sort-read : byteAt (roomy (frame w k ns)) 0 ≡ sortNumber k
   sort-read = frame-at 0

@@ -26,7 +26,7 @@ use Rattle.cluster.specs.declared.Cluster.{Cluster}
 use Rattle.cluster.specs.Ranges.{FitsHead, FitsServer, Fits}
 use Rattle.cluster.specs.Servers.{mostServers, zeroServer, zeroCluster, pastServer, serverAt, withLog, withMail, withServer}
 use Rattle.cluster.proofs.Changed.{fits-head, fits-log, fits-mail, fits-rowed}
-use Rattle.cluster.proofs.Fresh.{good-fresh, fits-fresh}
+use Rattle.cluster.proofs.Fresh.{fresh-past, fits-fresh}
 use Rattle.base.proofs.Replaced.{all-set}
 use Rattle.log.proofs.Ranges.{fits-appended}
 use Rattle.lines.specs.Texts.{lines}
@@ -43,15 +43,16 @@ use Rattle.loads.specs.Decoded.{headSaid, serverSaid, entrySaid, reportS
 
 -- as past the count of a fresh cluster
 fits-zero : FitsServer zeroServer
-fits-zero = subst FitsServer (good-fresh 2 (omega arith) (omega arith) .past 6 (omega arith) (omega arith)) (fits-fresh 2 (omega arith) .each 6 (omega arith))
+fits-zero = subst FitsServer (fresh-past 2 0 6 (omega arith) (omega arith)) (fits-fresh 2 0 (omega arith) (omega arith) .each 6 (omega arith))
 
 fits-zero-cluster : Fits zeroCluster
-fits-zero-cluster = record { count = omega arith; slots = refl; each = λ i l. rw (getD-replicate mostServers i zeroServer pastServer l) fits-zero }
+fits-zero-cluster = record { count = omega arith; followers = omega arith; slots = refl; each = λ i l. rw (getD-replicate mostServers i zeroServer pastServer l) fits-zero }
 
 fits-put : {c : Cluster} → Fits c → (i : ℕ) (s : Server) → FitsServer s → Fits (withServer c i s)
 fits-put {c} f i s new =
     record {
       count = f .count;
+      followers = f .followers;
       slots = length-set (c .servers) i s ∙ f .slots;
       each = all-set FitsServer (c .servers) pastServer mostServers (omega (arith, f .slots)) (f .each) i s new;
     }
@@ -141,8 +142,8 @@ module _ {w : Widths} (l : Lawful w) (bs : List ℕ) (b : BytesAt bs) where
   unfolding withFrame
   fits-frame d f = go (eqb (byteAt bs 0) 0) (eqb (byteAt bs 0) 1)
     where
-      go : (x y : Bool) → Fits (cond x (counting d (saidAt w S.First bs 1)) (cond y (beginning d (serverSaid (numbersIn w S.Server bs))) (telling w d bs)) .cluster)
-      go true y = record { count = omega (arith, number-at S.First 1); slots = f .slots; each = f .each }
+      go : (x y : Bool) → Fits (cond x (counting d (saidAt w S.First bs 1) (saidAt w S.First bs 2)) (cond y (beginning d (serverSaid (numbersIn w S.Server bs))) (telling w d bs)) .cluster)
+      go true y = record { count = omega (arith, number-at S.First 1); followers = l .first .followers bs b; slots = f .slots; each = f .each }
       go false true = fits-begun d f
       go false false = fits-telling d f
 

@@ -11,7 +11,7 @@ use lib.Seq.{take-suc, drop-cons, drop-drop, getD-drop}
 use Rattle.hex.specs.Lines.{bytesOf}
 use Rattle.lines.specs.Texts.{lineFeed, lines}
 use Rattle.lines.proofs.Lines.{Plain, none, more, plain-snoc, line-first, line-last}
-use Rattle.saved.specs.Editions.{widths1}
+use Rattle.saved.specs.Layout.{Widths}
 use Rattle.loads.specs.declared.Draft.{Draft}
 use Rattle.loads.specs.Decoded.{withFrame, roomy, decodedBy, freshDraft, draftedIn}
 
@@ -20,20 +20,20 @@ abbrev pub part : List ℕ → ℕ → ℕ → List ℕ
 part text start i = take (i - start) (drop start text)
 
 -- the draft of the lines of a text from a place on
-abbrev reading : Draft → List ℕ → Draft
-reading d text = decodedBy widths1 d (map bytesOf (lines text))
+abbrev reading : Widths → Draft → List ℕ → Draft
+reading w d text = decodedBy w d (map bytesOf (lines text))
 
 -- the lines up to start are decoded, and from there to i there is no line feed
-pub record Read (text : List ℕ) (d : Draft) (start i : ℕ) : Type 0 where
+pub record Read (w : Widths) (text : List ℕ) (d : Draft) (start i : ℕ) : Type 0 where
   pub begun : start ≤ i
   pub inside : i ≤ length text
   pub plain : Plain (part text start i)
-  pub same : reading d (drop start text) ≡ reading freshDraft text
+  pub same : reading w d (drop start text) ≡ reading w freshDraft text
 
-pub read-none : (text : List ℕ) → Read text freshDraft 0 0
-read-none text = record { begun = omega arith; inside = omega arith; plain = none; same = refl }
+pub read-none : (w : Widths) (text : List ℕ) → Read w text freshDraft 0 0
+read-none w text = record { begun = omega arith; inside = omega arith; plain = none; same = refl }
 
-module _ {text : List ℕ} {d : Draft} {start i : ℕ} (r : Read text d start i) where
+module _ {w : Widths} {text : List ℕ} {d : Draft} {start i : ℕ} (r : Read w text d start i) where
   -- what is left to read
   cut : drop start text ≡ part text start i ++ drop i text
   cut =
@@ -41,7 +41,7 @@ module _ {text : List ℕ} {d : Draft} {start i : ℕ} (r : Read text d start i)
       sym (take-append-drop (i - start) (drop start text)) ∙ ap (λ (l : List ℕ). part text start i ++ l) (drop-drop (i - start) start text ∙ ap (λ (k : ℕ). drop k text) e)
 
   module _ (h : i < length text) where
-    pub read-character : getD text i 0 ≢ lineFeed → Read text d start (i + 1)
+    pub read-character : getD text i 0 ≢ lineFeed → Read w text d start (i + 1)
     read-character n = record { begun = omega (arith, r .begun); inside = omega arith; plain = longer; same = r .same }
       where
         next : getD (drop start text) (i - start) 0 ≡ getD text i 0
@@ -52,7 +52,7 @@ module _ {text : List ℕ} {d : Draft} {start i : ℕ} (r : Read text d start i)
             let e : i + 1 - start ≡ suc (i - start) = omega (arith, r .begun) in
             rw (e, take-suc (drop start text) (i - start) 0 (omega (arith, length-drop start text, r .begun)), next) (plain-snoc (getD text i 0) (r .plain) (ne-eqb _ _ n))
 
-    pub read-line : {e : Draft} → getD text i 0 ≡ lineFeed → e ≡ withFrame widths1 d (roomy (bytesOf (part text start i))) → Read text e (i + 1) (i + 1)
+    pub read-line : {e : Draft} → getD text i 0 ≡ lineFeed → e ≡ withFrame w d (roomy (bytesOf (part text start i))) → Read w text e (i + 1) (i + 1)
     read-line {e} f p = record { begun = omega arith; inside = omega arith; plain = nothing; same = after }
       where
         nothing : Plain (part text (i + 1) (i + 1))
@@ -64,8 +64,8 @@ module _ {text : List ℕ} {d : Draft} {start i : ℕ} (r : Read text d start i)
         line : lines (drop start text) ≡ part text start i ∷ lines (drop (i + 1) text)
         line = ap lines (cut ∙ ap (λ (l : List ℕ). part text start i ++ l) here) ∙ line-first (drop (i + 1) text) (r .plain)
 
-        after : reading e (drop (i + 1) text) ≡ reading freshDraft text
-        after = ap (λ (x : Draft). reading x (drop (i + 1) text)) p ∙ sym (ap (λ (ls : List (List ℕ)). decodedBy widths1 d (map bytesOf ls)) line) ∙ r .same
+        after : reading w e (drop (i + 1) text) ≡ reading w freshDraft text
+        after = ap (λ (x : Draft). reading w x (drop (i + 1) text)) p ∙ sym (ap (λ (ls : List (List ℕ)). decodedBy w d (map bytesOf ls)) line) ∙ r .same
 
   -- ---- at the end
 
@@ -74,10 +74,10 @@ module _ {text : List ℕ} {d : Draft} {start i : ℕ} (r : Read text d start i)
     rest = cut ∙ ap (λ (l : List ℕ). part text start i ++ l) (drop-of-length-le text {i = i} h) ∙ append-nil (part text start i)
 
     -- a last line without a line feed counts
-    pub read-last : {e : Draft} → start < i → e ≡ withFrame widths1 d (roomy (bytesOf (part text start i))) → e .cluster ≡ draftedIn widths1 text
+    pub read-last : {e : Draft} → start < i → e ≡ withFrame w d (roomy (bytesOf (part text start i))) → e .cluster ≡ draftedIn w text
     unfolding draftedIn
     read-last {e} l p =
-        ap (λ (x : Draft). x .cluster) (p ∙ sym (ap (λ (ls : List (List ℕ)). decodedBy widths1 d (map bytesOf ls)) (ap lines rest ∙ one (part text start i) (r .plain) some)) ∙ r .same)
+        ap (λ (x : Draft). x .cluster) (p ∙ sym (ap (λ (ls : List (List ℕ)). decodedBy w d (map bytesOf ls)) (ap lines rest ∙ one (part text start i) (r .plain) some)) ∙ r .same)
       where
         some : 0 < length (part text start i)
         some = omega (arith, length-take (i - start) (drop start text), length-drop start text, r .inside)
@@ -86,8 +86,8 @@ module _ {text : List ℕ} {d : Draft} {start i : ℕ} (r : Read text d start i)
         one [] q l = absurd (omega arith)
         one (b ∷ p) (more f q) l = line-last b p f q
 
-    pub read-all : i ≤ start → d .cluster ≡ draftedIn widths1 text
+    pub read-all : i ≤ start → d .cluster ≡ draftedIn w text
     unfolding draftedIn
     read-all l =
         let e : drop start text ≡ [] = drop-of-length-le text {i = start} (omega arith) in
-        ap (λ (x : Draft). x .cluster) (sym (ap (reading d) e) ∙ r .same)
+        ap (λ (x : Draft). x .cluster) (sym (ap (reading w d) e) ∙ r .same)

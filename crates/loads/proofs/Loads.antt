@@ -7,6 +7,7 @@ use Prim.Native.Nat.{ℕ, _-_, _<_}
 use native.Mathlib.Omega.{arith}
 use lib.Dec.{eqb}
 use lib.ListN.{length, getD}
+use borrow.Author.Tests.{eq-eqb, eqb-true}
 use Rattle.base.specs.Numbers.{byte}
 use Rattle.base.proofs.Bools.{and-left, and-right, not-both}
 use Rattle.hex.specs.Lines.{bytesOf}
@@ -24,15 +25,15 @@ use Rattle.steps.specs.Refusals.{decided}
 use Rattle.steps.specs.Answers.{refusingAll}
 use Rattle.steps.specs.Reasons.{Clear, Broken, here, later}
 use Rattle.steps.proofs.Decided.{decided-clear, decided-broken}
-use Rattle.saved.specs.Editions.{Edition, edition1, edition2, editions, newest, isKnown, editionNumbered, allows, hasForm}
+use Rattle.saved.specs.Editions.{Edition, edition1, edition2, edition3, editions, newest, isKnown, editionNumbered, tellsFollowers, allows, hasForm}
 use Rattle.saved.specs.Saved.{savedAs, saveOf}
 use Rattle.saved.specs.Shape.{namedIn, namedBy, shapedFirst, shapedFor}
 use Rattle.saved.proofs.Lawful.{Lawful, numbered-is}
-use Rattle.saved.proofs.Allowed.{form-formed, newest-form}
-use Rattle.shapes.proofs.Next.{Reads, reads-all, reads-old}
+use Rattle.saved.proofs.Allowed.{form-formed, form-followers, newest-form}
+use Rattle.shapes.proofs.Next.{Reads, reads-all}
 use Rattle.loads.specs.Decoded.{decodedIn}
 use Rattle.loads.specs.Loads.{sameText, loaded, editionOf, decoded, loadRules, loadFor}
-use Rattle.loads.specs.Statements.{IsSaved, Finds, LoadsExactly, NoFrameExactly, IllFormedExactly, LoadsOrRefuses, UnknownIsRefused, GivesBackIn, GivesBack, OneEach, MeansTheSame, OverIsRefused, OldRefusesNew}
+use Rattle.loads.specs.Statements.{IsSaved, Finds, LoadsExactly, NoFrameExactly, IllFormedExactly, LoadsOrRefuses, UnknownIsRefused, GivesBackIn, GivesBack, OneEach, MeansTheSame, NoFollowers, OverIsRefused, OldRefusesNew}
 use Rattle.loads.proofs.Texts.{same-text, text-same}
 use Rattle.loads.proofs.Decoding.{saved-decoded}
 use Rattle.loads.proofs.Shaped.{saved-named, saved-shaped}
@@ -81,7 +82,7 @@ module _ (knows : List Edition) (r : Reads knows) where
           let e = editionOf knows text in
           let named : e .number ≡ namedBy text = numbered-is knows (namedBy text) (shaped-known knows text shape) in
           ap (decodedIn (e .widths)) (sym (s .saves))
-          ∙ saved-decoded e (r (namedBy text)) (omega (arith, byte-below (bytesOf (getD (lines text) 0 [])) (bytes-below (getD (lines text) 0 [])) 1)) d (s .fits) (form-formed e d (s .form))
+          ∙ saved-decoded e (r (namedBy text)) (omega (arith, byte-below (bytesOf (getD (lines text) 0 [])) (bytes-below (getD (lines text) 0 [])) 1)) d (s .fits) (form-formed e d (s .form)) (form-followers e d (s .form))
 
       saved-clear : Clear (loadRules knows text)
       saved-clear = (
@@ -202,7 +203,8 @@ module _ (knows : List Edition) (r : Reads knows) where
 
 pub one-each : (e : Edition) → Lawful (e .widths) → e .number < byte → OneEach e
 one-each e l b c d f h g k same =
-    sym (saved-decoded e l b c f (form-formed e c h)) ∙ ap (decodedIn (e .widths)) same ∙ saved-decoded e l b d g (form-formed e d k)
+    sym (saved-decoded e l b c f (form-formed e c h) (form-followers e c h)) ∙ ap (decodedIn (e .widths)) same
+    ∙ saved-decoded e l b d g (form-formed e d k) (form-followers e d k)
 
 pub finds-1 : Finds editions edition1
 finds-1 = record { short = omega arith; known = refl; same = refl }
@@ -210,9 +212,12 @@ finds-1 = record { short = omega arith; known = refl; same = refl }
 pub finds-2 : Finds editions edition2
 finds-2 = record { short = omega arith; known = refl; same = refl }
 
+pub finds-3 : Finds editions edition3
+finds-3 = record { short = omega arith; known = refl; same = refl }
+
 pub gives-back : GivesBack
 unfolding saveOf
-gives-back c d f h = gives-back-in editions reads-all newest finds-2 c d f (newest-form d ∙ h)
+gives-back c d f h = gives-back-in editions reads-all newest finds-3 c d f (newest-form d ∙ h)
 
 -- what a loading gives, by the shape and the edition
 abbrev loadBy : Cluster → List ℕ → Bool → Edition → Outcome
@@ -220,34 +225,48 @@ loadBy c text shape e =
     let d = decodedIn (e .widths) text in
     decided (refusingAll c) (loaded d) ((shape, NotAFrame) ∷ (hasForm e d, IllFormed) ∷ (sameText (savedAs e d) text, IllFormed) ∷ [])
 
-same-shape : (text : List ℕ) → namedBy text ≡ 1 → shapedFor editions text ≡ shapedFor (edition1 ∷ []) text
-unfolding shapedFor
-same-shape text n = ap (λ (b : Bool). eqb (getD text (length text - 1) 0) lineFeed && b) (go (lines text) n)
-  where
-    go : (ls : List (List ℕ)) → namedIn (getD ls 0 []) ≡ 1 → shapedFirst editions ls ≡ shapedFirst (edition1 ∷ []) ls
-    go [] m = refl
-    go (l ∷ ls) m = rw m
+-- where both find the same under its number
+module _ (old : List Edition) (e : Edition) (k : isKnown editions (e .number) ≡ isKnown old (e .number)) (s : editionNumbered editions (e .number) ≡ editionNumbered old (e .number)) where
+  same-shape : (text : List ℕ) → namedBy text ≡ e .number → shapedFor editions text ≡ shapedFor old text
+  unfolding shapedFor
+  same-shape text n = ap (λ (b : Bool). eqb (getD text (length text - 1) 0) lineFeed && b) (go (lines text) n)
+    where
+      go : (ls : List (List ℕ)) → namedIn (getD ls 0 []) ≡ e .number → shapedFirst editions ls ≡ shapedFirst old ls
+      go [] m = refl
+      go (l ∷ ls) m = rw (m, k, s)
 
-pub means-the-same : MeansTheSame
-unfolding loadFor
-means-the-same c text n =
-    let same : editionOf editions text ≡ editionOf (edition1 ∷ []) text = rw n in
-    ap (λ (b : Bool). loadBy c text b (editionOf editions text)) (same-shape text n) ∙ ap (loadBy c text (shapedFor (edition1 ∷ []) text)) same
+  pub means-the-same : MeansTheSame old e
+  unfolding loadFor
+  means-the-same c text n =
+      let same : editionOf editions text ≡ editionOf old text = rw n s in
+      ap (λ (b : Bool). loadBy c text b (editionOf editions text)) (same-shape text n) ∙ ap (loadBy c text (shapedFor old text)) same
+
+pub no-followers : (e : Edition) → Finds editions e → tellsFollowers (e .widths) ≡ false → NoFollowers e
+no-followers e k none c d text n l = go (way editions reads-all c text)
+  where
+    go : Way editions reads-all c text → d .followers ≡ 0
+    go (taken q w) =
+        let same : decoded editions text ≡ d = ap (λ (o : Outcome). o .cluster) (sym w ∙ l) in
+        let its : editionOf editions text ≡ e = ap (editionNumbered editions) n ∙ k .same in
+        let form : hasForm e d ≡ true = ap (hasForm e) (sym same) ∙ ap (λ (x : Edition). hasForm x (decoded editions text)) (sym its) ∙ q .1 .0 in
+        eqb-true (d .followers) 0 (rw none at (form-followers e d form))
+    go (no-shape p w) = absurd (done-apart c d NotAFrame (sym w ∙ l))
+    go (no-record p q w) = absurd (done-apart c d IllFormed (sym w ∙ l))
 
 pub over-is-refused : OverIsRefused
-over-is-refused c d f h over = ill-formed-exactly editions reads-all c (savedAs edition1 d) .1 (in-shape editions reads-all edition1 finds-1 d f h, none)
+over-is-refused c d f h none over = ill-formed-exactly editions reads-all c (savedAs edition1 d) .1 (in-shape editions reads-all edition1 finds-1 d f h, other)
   where
     found : Lawful (edition1 .widths)
     found = reads-all 1
 
     -- it would be the record itself
-    none : (x : Cluster) → IsSaved (editionOf editions (savedAs edition1 d)) x (savedAs edition1 d) → ⊥
-    none x s =
+    other : (x : Cluster) → IsSaved (editionOf editions (savedAs edition1 d)) x (savedAs edition1 d) → ⊥
+    other x s =
         let t : IsSaved edition1 x (savedAs edition1 d) = subst (λ (e : Edition). IsSaved e x (savedAs edition1 d)) (in-its-edition editions reads-all edition1 finds-1 d f h) s in
         let same : x ≡ d =
-        sym (saved-decoded edition1 found (omega arith) x (t .fits) (form-formed edition1 x (t .form))) ∙ ap (decodedIn (edition1 .widths)) (t .saves)
-        ∙ saved-decoded edition1 found (omega arith) d f h in
+        sym (saved-decoded edition1 found (omega arith) x (t .fits) (form-formed edition1 x (t .form)) (form-followers edition1 x (t .form))) ∙ ap (decodedIn (edition1 .widths)) (t .saves)
+        ∙ saved-decoded edition1 found (omega arith) d f h (eq-eqb (d .followers) 0 none) in
         not-both _ (allowed d (subst (λ (y : Cluster). hasForm edition1 y ≡ true) same (t .form))) over
 
-pub old-refuses-new : OldRefusesNew
-old-refuses-new c text n = unknown-is-refused (edition1 ∷ []) reads-old c text (ap (isKnown (edition1 ∷ [])) n)
+pub old-refuses-new : (old : List Edition) (e : Edition) → Reads old → isKnown old (e .number) ≡ false → OldRefusesNew old e
+old-refuses-new old e r u c text n = unknown-is-refused old r c text (ap (isKnown old) n ∙ u)

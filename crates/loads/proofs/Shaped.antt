@@ -39,6 +39,7 @@ use Rattle.saved.specs.Shape.{isFrame, announced, shapedBy, namedIn, namedBy, s
 use Rattle.saved.proofs.Texts.{AllBytes, all-none, all-more, text-lines, text-ends}
 use Rattle.saved.proofs.Fields.{written-size, said-written}
 use Rattle.saved.proofs.Lawful.{Lawful}
+use Rattle.saved.proofs.First.{firstNumbers, first-taken, first-long, first-size}
 use Rattle.saved.proofs.Frames.{frames-bytes}
 use Rattle.loads.proofs.Counted.{counted, AllCount, counted-long, all-count}
 
@@ -170,7 +171,7 @@ module _ {w : Widths} (l : Lawful w) where
 
 module _ (e : Edition) (l : Lawful (e .widths)) (b : e .number < byte) (c : Cluster) (f : Fits c) (h : wellFormed c ≡ true) where
   abbrev first-frame : List ℕ
-  first-frame = firstFrame (e .widths) (e .number) (c .count)
+  first-frame = firstFrame (e .widths) (e .number) (c .count) (c .followers)
 
   abbrev all : List (List ℕ)
   all = allFrames (e .widths) (counted c)
@@ -185,7 +186,7 @@ module _ (e : Edition) (l : Lawful (e .widths)) (b : e .number < byte) (c : Clus
       first-of {x} (all-more p ps) = bytes-hex x p
 
   first-named : namedIn (hexOf first-frame) ≡ e .number
-  first-named = ap (λ (x : List ℕ). byteAt x 1) first-bytes ∙ l .first-byte (e .number) (c .count)
+  first-named = ap (λ (x : List ℕ). byteAt x 1) first-bytes ∙ l .first .named (e .number) (c .count) (c .followers)
 
   -- it names its edition
   pub saved-named : namedBy (savedAs e c) ≡ e .number
@@ -195,11 +196,12 @@ module _ (e : Edition) (l : Lawful (e .widths)) (b : e .number < byte) (c : Clus
   frames-shaped =
       let w = e .widths in
       let g : Sound c = record { fits = f; good = good c f h } in
-      let ns = e .number ∷ c .count ∷ [] in
-      lines-shaped w (S.First ∷ []) (frames-bytes c f h e b l)
-      ∙ ap (λ (t : Bool). t && framedBy w (announced w S.First first-frame ++ []) all) (frame-of w S.First ns (sym (l .first-long)))
-      ∙ ap (λ (ns : List ℕ). framedBy w (replicate (byteAt ns 1) S.Server ++ []) all) (frame-says w S.First ns (sym (l .first-long)))
-      ∙ ap (λ (k : ℕ). framedBy w (replicate k S.Server ++ []) all) (sym (counted-long g)) ∙ servers-framed l (counted c) (all-count g)
+      let ns = firstNumbers w (e .number) (c .count) (c .followers) in
+      let long = first-long w (e .number) (c .count) (c .followers) (l .first) in
+      lines-shaped w (S.First ∷ []) (frames-bytes c f h e b l) ∙ ap (λ (x : List ℕ). framedBy w (S.First ∷ []) (x ∷ all)) (first-taken w (e .number) (c .count) (c .followers))
+      ∙ ap (λ (t : Bool). t && framedBy w (announced w S.First (frame w S.First ns) ++ []) all) (frame-of w S.First ns long)
+      ∙ ap (λ (ns : List ℕ). framedBy w (replicate (byteAt ns 1) S.Server ++ []) all) (frame-says w S.First ns long)
+      ∙ ap (λ (k : ℕ). framedBy w (replicate k S.Server ++ []) all) (first-size w (e .number) (c .count) (c .followers) (l .first) ∙ sym (counted-long g)) ∙ servers-framed l (counted c) (all-count g)
 
   -- THE LAW: for a reader that knows its edition, it has the shape
   pub saved-shaped : (knows : List Edition) → isKnown knows (e .number) ≡ true → editionNumbered knows (e .number) ≡ e → shapedFor knows (savedAs e c) ≡ true

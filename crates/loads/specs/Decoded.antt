@@ -47,8 +47,8 @@ reportSaid ns = record { who = byteAt ns 0; term = byteAt ns 1; last = byteAt ns
 
 -- ---- one frame after the other
 
-abbrev pub counting : Draft → ℕ → Draft
-counting d n = record { cluster = record { count = n; servers = d .cluster .servers }; begun = d .begun }
+abbrev pub counting : Draft → ℕ → ℕ → Draft
+counting d n f = record { cluster = record { count = n; followers = f; servers = d .cluster .servers }; begun = d .begun }
 
 -- the next server is begun, where there is a place for it
 unfoldable pub beginning : Draft → Server → Draft
@@ -78,7 +78,7 @@ module _ (w : Widths) where
 
   unfoldable pub withFrame : Draft → List ℕ → Draft
   withFrame d bs =
-      cond (eqb (byteAt bs 0) (sortNumber S.First)) (counting d (saidAt w S.First bs 1))
+      cond (eqb (byteAt bs 0) (sortNumber S.First)) (counting d (saidAt w S.First bs 1) (saidAt w S.First bs 2))
       (cond (eqb (byteAt bs 0) (sortNumber S.Server)) (beginning d (serverSaid (numbersIn w S.Server bs))) (telling d bs))
 
   abbrev pub decodedBy : Draft → List (List ℕ) → Draft

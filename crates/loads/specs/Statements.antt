@@ -2,7 +2,7 @@
 -- reader of more editions does with the texts of fewer. Assumes nothing.
 use mathlib.Core.Path.{_≡_}
 use mathlib.Core.Bool.{true, false}
-use mathlib.Core.List.{List, [], _∷_}
+use mathlib.Core.List.{List}
 use mathlib.Core.Logic.{_⊎_, _↔_}
 use Prim.Native.Nat.{ℕ, _<_}
 use Rattle.base.specs.Numbers.{byte}
@@ -11,7 +11,7 @@ use Rattle.cluster.specs.WellFormed.{wellFormed}
 use Rattle.cluster.specs.Ranges.{Fits}
 use Rattle.steps.specs.declared.Refusal.the-variants.{NotAFrame, IllFormed}
 use Rattle.steps.specs.Answers.{refusingAll}
-use Rattle.saved.specs.Editions.{Edition, edition1, edition2, isKnown, editionNumbered, allows, hasForm}
+use Rattle.saved.specs.Editions.{Edition, edition1, isKnown, editionNumbered, allows, hasForm}
 use Rattle.saved.specs.Saved.{savedAs, saveOf}
 use Rattle.saved.specs.Shape.{namedBy, shapedFor}
 use Rattle.loads.specs.Loads.{loaded, editionOf, loadFor, loadOf}
@@ -72,14 +72,19 @@ GivesBack = (c d : Cluster) → Fits d → wellFormed d ≡ true → loadOf c (s
 abbrev pub OneEach : Edition → Type 0
 OneEach e = (c d : Cluster) → Fits c → hasForm e c ≡ true → Fits d → hasForm e d ≡ true → savedAs e c ≡ savedAs e d → c ≡ d
 
--- edition 1 means what it meant: over its texts a reader of both gives what a reader of edition 1 alone gives
-abbrev pub MeansTheSame : Type 0
-MeansTheSame = (c : Cluster) (text : List ℕ) → namedBy text ≡ edition1 .number → loadOf c text ≡ loadFor (edition1 ∷ []) c text
+-- an edition means what it meant: over its texts a reader of all gives what a reader of the old ones alone gives
+abbrev pub MeansTheSame : List Edition → Edition → Type 0
+MeansTheSame old e = (c : Cluster) (text : List ℕ) → namedBy text ≡ e .number → loadOf c text ≡ loadFor old c text
 
--- a record that edition 1 doesn't allow, written there all the same, is refused with 2
+-- and means no followers, where it has no field for them
+abbrev pub NoFollowers : Edition → Type 0
+NoFollowers e = (c d : Cluster) (text : List ℕ) → namedBy text ≡ e .number → loadOf c text ≡ loaded d → d .followers ≡ 0
+
+-- a record without followers that edition 1 doesn't allow, written there all the same, is refused with 2
 abbrev pub OverIsRefused : Type 0
-OverIsRefused = (c d : Cluster) → Fits d → wellFormed d ≡ true → allows edition1 d ≡ false → loadOf c (savedAs edition1 d) ≡ refusingAll c IllFormed
+OverIsRefused =
+    (c d : Cluster) → Fits d → wellFormed d ≡ true → d .followers ≡ 0 → allows edition1 d ≡ false → loadOf c (savedAs edition1 d) ≡ refusingAll c IllFormed
 
--- a reader of edition 1 alone refuses all texts of edition 2 with 1
-abbrev pub OldRefusesNew : Type 0
-OldRefusesNew = (c : Cluster) (text : List ℕ) → namedBy text ≡ edition2 .number → loadFor (edition1 ∷ []) c text ≡ refusingAll c NotAFrame
+-- a reader of the old editions alone refuses all texts of a new one with 1
+abbrev pub OldRefusesNew : List Edition → Edition → Type 0
+OldRefusesNew old e = (c : Cluster) (text : List ℕ) → namedBy text ≡ e .number → loadFor old c text ≡ refusingAll c NotAFrame

@@ -5,7 +5,7 @@ ghost use Prim.Native.Nat.{_+_, _<_};
 ghost use Rattle.hex.specs.Lines.{bytesOf};
 ghost use Rattle.words.specs.Words.{wordAt};
 ghost use Rattle.saved.specs.declared.Sort.the-variants as S;
-ghost use Rattle.saved.specs.Layout.{numbersIn};
+ghost use Rattle.saved.specs.Layout.{numbersIn, saidAt};
 ghost use Rattle.saved.specs.Editions.{widths1, editions, isKnown, editionNumbered, hasForm};
 ghost use Rattle.saved.specs.Saved.{savedAs};
 ghost use Rattle.saved.specs.Written.{mostBytes};
@@ -125,12 +125,26 @@ fn told_by(s: Server, b: [u8; BYTES]) -> Server
     }
 }
 
-fn counting(d: Draft, n: usize) -> Draft
-    ensures { λ r. ⌜ r ≡ counting d n ⌝ }
+// The followers that a first frame tells: none where its edition has no field for them.
+pub fn followers_in(edition: u8, b: [u8; BYTES]) -> u8
+    ensures { λ r. ⌜ r ≡ saidAt (editionNumbered editions edition .widths) S.First b 2 ⌝ }
+{
+    if saved::limits_of(edition).followers {
+        return b[3];
+    }
+    0
+}
+
+fn counting(d: Draft, n: usize, followers: u8) -> Draft
+    ensures { λ r. ⌜ r ≡ counting d n followers ⌝ }
 {
     let c = d.cluster;
     Draft {
-        cluster: Cluster { count: n, ..c },
+        cluster: Cluster {
+            count: n,
+            followers: followers,
+            ..c
+        },
         begun: d.begun,
     }
 }
@@ -171,24 +185,24 @@ fn telling(d: Draft, b: [u8; BYTES]) -> Draft
     }
 }
 
-fn with_frame(d: Draft, b: [u8; BYTES]) -> Draft
-    ensures { λ r. ⌜ r ≡ withFrame widths1 d b ⌝ }
+fn with_frame(edition: u8, d: Draft, b: [u8; BYTES]) -> Draft
+    ensures { λ r. ⌜ r ≡ withFrame (editionNumbered editions edition .widths) d b ⌝ }
 {
     let sort = b[0];
     match sort {
-        FIRST => counting(d, b[2] as usize),
+        FIRST => counting(d, b[2] as usize, followers_in(edition, b)),
         SERVER => beginning(d, server_in(b)),
         _ => telling(d, b),
     }
 }
 
 // The frame of a line, of any length.
-fn with_line(d: Draft, line: &[u8]) -> Draft
-    ensures { λ r. ⌜ r ≡ withFrame widths1 d (roomy (bytesOf (now (line .entry)))) ⌝ }
+fn with_line(edition: u8, d: Draft, line: &[u8]) -> Draft
+    ensures { λ r. ⌜ r ≡ withFrame (editionNumbered editions edition .widths) d (roomy (bytesOf (now (line .entry)))) ⌝ }
 {
     let mut b = [0u8; BYTES];
     hex::unhex(line, &mut b);
-    with_frame(d, b)
+    with_frame(edition, d, b)
 }
 
 fn fresh_draft() -> Draft
@@ -200,31 +214,31 @@ fn fresh_draft() -> Draft
     }
 }
 
-// What the frames of a text tell, with nothing checked; no frame tells of rows.
-fn drafted(text: &[u8]) -> Cluster
-    ensures { λ r. ⌜ r ≡ draftedIn widths1 (now (text .entry)) ⌝ }
+// What the frames of a text tell in an edition, with nothing checked; no frame tells of rows.
+fn drafted(edition: u8, text: &[u8]) -> Cluster
+    ensures { λ r. ⌜ r ≡ draftedIn (editionNumbered editions edition .widths) (now (text .entry)) ⌝ }
 {
     let mut d = fresh_draft();
     let mut start: usize = 0;
     let mut i: usize = 0;
     while i < text.len() {
         if text[i] == LINE_FEED {
-            d = with_line(d, &text[start..i]);
+            d = with_line(edition, d, &text[start..i]);
             start = i + 1;
         }
         i += 1;
     }
     if start < i {
-        d = with_line(d, &text[start..i]);
+        d = with_line(edition, d, &text[start..i]);
     }
     d.cluster
 }
 
-// What a text decodes to, with nothing checked.
-pub fn decode(text: &[u8]) -> Cluster
-    ensures { λ r. ⌜ r ≡ decodedIn widths1 (now (text .entry)) ⌝ }
+// What a text decodes to in an edition, with nothing checked.
+pub fn decode(edition: u8, text: &[u8]) -> Cluster
+    ensures { λ r. ⌜ r ≡ decodedIn (editionNumbered editions edition .widths) (now (text .entry)) ⌝ }
 {
-    let c = drafted(text);
+    let c = drafted(edition, text);
     cluster::rowed_all(c)
 }
 
@@ -266,7 +280,7 @@ pub fn load(c: Cluster, text: &[u8]) -> Outcome
     if !shapes::is_shaped(shape) {
         return steps::refuse_all(c, Refusal::NotAFrame);
     }
-    let d = decode(text);
+    let d = decode(shape.left.edition, text);
     if !saves_to(shape.left.edition, d, text) {
         return steps::refuse_all(c, Refusal::IllFormed);
     }

@@ -19,7 +19,7 @@ use Rattle.log.specs.Logs.{live}
 use Rattle.log.proofs.Orderly.{not-after-last}
 use Rattle.cluster.specs.declared.Server.{Server}
 use Rattle.cluster.specs.declared.Cluster.{Cluster}
-use Rattle.cluster.specs.Servers.{freshCluster, serverCount, serverAt, withServer, votedOf, electedAll, clockedOf, clocksSet}
+use Rattle.cluster.specs.Servers.{serverCount, serverAt, withServer, votedOf, electedAll, clockedOf, clocksSet}
 use Rattle.cluster.specs.Sets.{member}
 use Rattle.cluster.proofs.Good.{Good, ServerGood, good}
 use Rattle.steps.specs.declared.Step.{Step}
@@ -44,15 +44,16 @@ use Rattle.reads.specs.NewestRead.{newestDone}
 use Rattle.singles.specs.TakesReport.{takeDone}
 use Rattle.wholes.specs.Elects.{newTerm}
 use Rattle.wholes.specs.ClocksAgree.{greatestClock}
+use Rattle.wholes.specs.Starts.{Opening, freshOf}
 use Rattle.rules.specs.Rules.{putBack, rowOf, rulesOf, doneOf, isStart, stepOf}
 use Rattle.rules.proofs.Appends.{stampFrom, ticked}
-use Rattle.rules.proofs.Others.{officeOf, wallOf, put-either, changed-either, delivered-queue, delivered-count}
+use Rattle.rules.proofs.Others.{officeOf, wallOf, put-either, changed-either, delivered-queue, delivered-size}
 use Rattle.rules.proofs.Outcomes.{StepDone, step-cases}
 use Rattle.promises.specs.Runs.{Event, comes, overnight, happens, runTo, GoesOn, Onward, LeadsTo}
 use Rattle.promises.specs.Clocks.{ClocksHeld, NotFallen, ClocksPromised}
 use Rattle.safety.proofs.Views.{fresh-each}
 use Rattle.safety.proofs.Stepped.{Now, begun}
-use Rattle.promises.proofs.Turns.{given-back, next, some-of, reached}
+use Rattle.promises.proofs.Turns.{given-back, next, reached}
 
 -- no wall clock is above the greatest
 clock-le : (c : Cluster) (i : ℕ) → i < serverCount c → serverAt c i .head .wall ≤ greatestClock c
@@ -85,7 +86,7 @@ module _ (c : Cluster) (g : Good c) (m : ℕ) (walls : (i : ℕ) → i < serverC
   back a o h =
       let d = withServer c a (o .server) in
       record {
-        count = delivered-count d (o .sends);
+        count = delivered-size d (o .sends) .0;
         each = λ i. subst (ClockKept m (serverAt c i)) (sym (delivered-queue d (o .sends) i)) (put a (o .server) h .each i);
       }
 
@@ -119,7 +120,7 @@ module _ (c : Cluster) (g : Good c) (m : ℕ) (walls : (i : ℕ) → i < serverC
 
   done-kept : (s : Step) → (isStart s ≡ true → doneOf c s .answer ≢ Done) → Clear (rulesOf c s) → ClocksKept m c (doneOf c s .cluster)
   unfolding rowOf heardOf tookOf stampedOf
-  done-kept (Start n) no-start k = absurd (no-start refl refl)
+  done-kept (Start n f) no-start k = absurd (no-start refl refl)
   done-kept (Elect a v) no-start k = elected a v
   done-kept (StepDown a) no-start k = back a (downDone (serverAt c a)) (same a)
   done-kept (Hears a b) no-start k = back a (hearsOf (serverAt c a) (serverAt c b)) (omega arith, heard a b)
@@ -172,9 +173,9 @@ fallen-trans p q = record { each = λ i. le-trans (p .each i) (q .each i); great
 fallen-refl : {c : Cluster} → NotFallen c c
 fallen-refl = record { each = λ i. omega arith; greatest = omega arith }
 
-module _ {n : ℕ} {some : 0 < n} where
+module _ {z : Opening} where
   -- one event on
-  in-time : {c : Cluster} → Now n some c → InTime c → (e : Event) → GoesOn c e → InTime (happens c e) × NotFallen c (happens c e)
+  in-time : {c : Cluster} → Now z c → InTime c → (e : Event) → GoesOn c e → InTime (happens c e) × NotFallen c (happens c e)
   in-time {c} N t (comes s) g =
       let k = step-kept c (good c (N .fits) (N .formed)) (greatestClock c + mostAhead) (λ i l. omega (arith, clock-le c i l)) t s (g .1) in
       let f = not-fallen k in
@@ -182,18 +183,18 @@ module _ {n : ℕ} {some : 0 < n} where
   in-time {c} N t (overnight d) g =
       subst (λ (x : Cluster). InTime x × NotFallen c x) (sym (given-back N d)) (t, fallen-refl)
 
-  along : {c : Cluster} → Now n some c → InTime c → (es : List Event) → Onward c es → InTime (runTo c es) × NotFallen c (runTo c es)
+  along : {c : Cluster} → Now z c → InTime c → (es : List Event) → Onward c es → InTime (runTo c es) × NotFallen c (runTo c es)
   along N t [] h = (t, fallen-refl)
   along N t (e ∷ es) h =
       let x = in-time N t e (h .0) in
       let y = along (next N e (h .0) .later) (x .0) es (h .1) in
       (y .0, fallen-trans (x .1) (y .1))
 
-  onward : {c d : Cluster} → Now n some c → InTime c → LeadsTo c d → InTime d × NotFallen c d
+  onward : {c d : Cluster} → Now z c → InTime c → LeadsTo c d → InTime d × NotFallen c d
   onward {c} N t l = subst (λ (x : Cluster). InTime x × NotFallen c x) (l .ends) (along N t (l .events) (l .onward))
 
   -- no entry's time is past the applied time
-  held : {c : Cluster} → Now n some c → InTime c → ClocksHeld c
+  held : {c : Cluster} → Now z c → InTime c → ClocksHeld c
   held {c} N t i l =
       let s = serverAt c i in
       let g = good c (N .fits) (N .formed) .counted i l in
@@ -204,9 +205,9 @@ module _ {n : ℕ} {some : 0 < n} where
 
 pub clocks-held : ClocksPromised
 clocks-held c d f l =
-    let n = f .count in
-    let fresh : InTime (freshCluster n) =
-    fresh-each (λ s. s .head .time .p ≤ greatestClock (freshCluster n) + mostAhead) (omega arith) (omega arith) (omega arith) n in
+    let z = f .opening in
+    let fresh : InTime (freshOf z) =
+    fresh-each (λ s. s .head .time .p ≤ greatestClock (freshOf z) + mostAhead) (omega arith) (omega arith) (omega arith) (z .servers) (z .followers) in
     let N = reached f in
-    let t = onward (begun n (some-of (f .fewest)) (f .fewest) (f .most)) fresh (f .leads) .0 in
+    let t = onward (begun z) fresh (f .leads) .0 in
     (held N t, onward N t l .1)

@@ -19,18 +19,19 @@ use Rattle.cluster.specs.declared.Server.{Server}
 use Rattle.cluster.specs.declared.Cluster.{Cluster}
 use Rattle.cluster.specs.Servers.{serverCount, serverAt}
 use Rattle.reads.specs.MajorityRead.{commitTime, covered}
+use Rattle.wholes.specs.Starts.{Opening, freshOf}
 use Rattle.safety.specs.Cluster.{Holds}
 use Rattle.safety.specs.Steps.{Walk}
 use Rattle.safety.specs.Demand3.{LastFor, Demand3}
 use Rattle.safety.specs.Time.{stamp}
 use Rattle.safety.specs.View.{seenServer, view, seenCluster}
 use Rattle.promises.specs.Demand3.{entryOf, firstOf, holds, Shows, Kept, Demand3Promised}
-use Rattle.safety.proofs.Quorum.{majorities, majority-count}
+use Rattle.safety.proofs.Quorum.{majority-count}
 use Rattle.safety.proofs.Time.{stamp-before, not-before-stamp}
 use Rattle.safety.proofs.Joins.{commit-within}
 use Rattle.safety.proofs.Demand3.{demand3}
 use Rattle.safety.proofs.Views.{fresh-seen, fits-time, same-entry, holds-beginning}
-use Rattle.safety.proofs.Stepped.{Now, never-9}
+use Rattle.safety.proofs.Stepped.{quorums, Now, never-9}
 use Rattle.promises.proofs.Turns.{led, reached}
 use Rattle.promises.proofs.Answered.{Answered, answered}
 
@@ -50,33 +51,33 @@ found-is s key p within h =
 
 -- ---- what is covered once
 
-module _ {n : ℕ} {some : 0 < n} {x y : Cluster} (X : Now n some x) (Y : Now n some y) (w : Walk (majorities n some) (seenCluster x) (seenCluster y))
-    (s k : ℕ) (hs : s < n) (one : 1 ≤ k) (cov : k ≤ serverAt x s .head .commit) where
+module _ {z : Opening} {x y : Cluster} (X : Now z x) (Y : Now z y) (w : Walk (quorums z) (seenCluster x) (seenCluster y))
+    (s k : ℕ) (hs : s < z .servers) (one : 1 ≤ k) (cov : k ≤ serverAt x s .head .commit) where
   log-x : FitsLog (serverAt x s .log)
   log-x = X .fits .each s (omega (arith, X .few)) .log
 
-  log-y : (i : ℕ) → i < n → FitsLog (serverAt y i .log)
+  log-y : (i : ℕ) → i < z .servers → FitsLog (serverAt y i .log)
   log-y i h = Y .fits .each i (omega (arith, Y .few)) .log
 
   long : k ≤ lengthOf (serverAt x s .log)
-  long = omega (arith, commit-within (fresh-seen n) (X .walk) s)
+  long = omega (arith, commit-within (fresh-seen (z .servers) (z .followers)) (X .walk) s)
 
-  seen : Demand3 (majorities n some) (view x) (view y) s k
-  seen = demand3 (fresh-seen n) (X .walk) w s k cov
+  seen : Demand3 (quorums z) (view x) (view y) s k
+  seen = demand3 (fresh-seen (z .servers) (z .followers)) (X .walk) w s k cov
 
-  held : (i : ℕ) → i < n → Holds k (view x s .log) (view y i) → holds y (firstOf x s k) i ≡ true
+  held : (i : ℕ) → i < z .servers → Holds k (view x s .log) (view y i) → holds y (firstOf x s k) i ≡ true
   held i h = holds-beginning (serverAt x s) (serverAt y i) log-x (log-y i h) long
 
   shown : (q : ℕ) (asked : Time) (v : ℕ) (u : Time) → isBefore asked (entryOf x s k .time) ≡ false → Answered y q (entryOf x s k .key) asked v u → Shows y q (entryOf x s k) k v
   shown q asked v u late a =
       let e = entryOf x s k in
       let t = serverAt y q in
-      let hq : q < n = omega (arith, ltb-true q (serverCount y) (a .below), Y .counted) in
+      let hq : q < z .servers = omega (arith, ltb-true q (serverCount y) (a .below), Y .counted) in
       let in-time = not-before-stamp (e .time) (commitTime t) (fits-time (serverAt x s .log) log-x k)
       (not-after-trans (e .time) asked (commitTime t) late (a .reached)) in
       let S = seen .reads q (stamp (e .time)) (omega arith) in-time in
       let p = S .found in
-      let f = found-is t (e .key) p (commit-within (fresh-seen n) (Y .walk) q) (S .read) in
+      let f = found-is t (e .key) p (commit-within (fresh-seen (z .servers) (z .followers)) (Y .walk) q) (S .read) in
       record {
         position = p;
         from = S .from;
@@ -91,7 +92,7 @@ module _ {n : ℕ} {some : 0 < n} {x y : Cluster} (X : Now n some x) (Y : Now n 
   kept-in =
       record {
         whole = length-take-le k (live (serverAt x s .log)) long;
-        majority = rw (Y .counted) (majority-count n (holds y (firstOf x s k)) _ held (seen .majority));
+        majority = rw (Y .counted, Y .follows) (majority-count (z .servers) (z .followers) (holds y (firstOf x s k)) _ held (seen .majority));
         primaries = λ i l p t. held i (omega (arith, Y .counted)) (seen .primaries i p t);
         commits = λ i l h. held i (omega (arith, Y .counted)) (seen .commits i h);
         reads = λ q asked v t late a. shown q asked v t late (answered y (Y .fits) q _ asked v t a);
@@ -105,6 +106,7 @@ demand-3 c d f l =
     let T = led N l in
     record {
       counted = T .later .counted ∙ sym (N .counted);
+      follow = T .later .follows ∙ sym (N .follows);
       kept = λ s k h one cov. kept-in N (T .later) (T .walk) s k (omega (arith, N .counted)) one cov;
       never-9 = never-9 (T .later);
     }

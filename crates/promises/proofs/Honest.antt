@@ -22,6 +22,7 @@ use Rattle.steps.specs.declared.Step.the-variants.{Writes}
 use Rattle.steps.specs.declared.Refusal.the-variants.{IllFormed, OutOfRange}
 use Rattle.steps.proofs.Decided.{decided-clear}
 use Rattle.reads.specs.MajorityRead.{covered}
+use Rattle.wholes.specs.Starts.{Opening, freshOf}
 use Rattle.rules.specs.Rules.{stepOf}
 use Rattle.safety.proofs.Stepped.{Now, begun}
 use Rattle.histories.specs.declared.PhoneRecord.{PhoneRecord}
@@ -32,7 +33,7 @@ use Rattle.histories.specs.Checking.{mostRecords, recordAt, obeysAt, firstBreak
 use Rattle.promises.specs.Runs.{Event, comes, Onward}
 use Rattle.promises.specs.Longest.{recordsOf, longestCovered, HoldsAll}
 use Rattle.promises.specs.Honest.{AnsweredWrite, Made, ends, goes, writes, reads, acknowledges, HonestPromised}
-use Rattle.promises.proofs.Turns.{InTurn, next, some-of}
+use Rattle.promises.proofs.Turns.{InTurn, next}
 use Rattle.promises.proofs.Longest.{longest-beginning}
 use Rattle.promises.proofs.ReadRecords.{GoodLog, read-obeys}
 use Rattle.promises.proofs.WriteRecords.{Stood, stood-on, wrote, write-obeys}
@@ -62,20 +63,20 @@ none-breaks (suc n) p h = rw (none-breaks n p (λ i l. h i (omega arith)), h n (
 -- ---- along a run
 
 -- whatever is covered from c on is in es, so whatever is recorded from there on obeys
-module _ {n : ℕ} {some : 0 < n} {es : List Entry} (o : GoodLog es) where
-  made-obey : {c : Cluster} {run : List Event} {ws : List AnsweredWrite} {rs out : List PhoneRecord} → Made c run ws rs out → Now n some c → Onward c run
-      → ((y : Cluster) → Among y (recordsOf c run) → (i : ℕ) → i < n → Beginning (covered (serverAt y i)) es)
-      → ((w : AnsweredWrite) → Among w ws → Stood n some c w) → AllObey es rs → AllObey es out
+module _ {z : Opening} {es : List Entry} (o : GoodLog es) where
+  made-obey : {c : Cluster} {run : List Event} {ws : List AnsweredWrite} {rs out : List PhoneRecord} → Made c run ws rs out → Now z c → Onward c run
+      → ((y : Cluster) → Among y (recordsOf c run) → (i : ℕ) → i < z .servers → Beginning (covered (serverAt y i)) es)
+      → ((w : AnsweredWrite) → Among w ws → Stood z c w) → AllObey es rs → AllObey es out
   made-obey ends N h begins stood obey = obey
   made-obey (goes e m) N h begins stood obey =
       let t = next N e (h .0) in made-obey m (t .later) (h .1) (λ y k. begins y (List·Memᴰ·tail k)) (λ w k. stood-on t (stood w k)) obey
   made-obey (writes {c = c} {ws = ws} a client w told m) N h begins stood obey =
       made-obey m (t .later) (h .1) (λ y k. begins y (List·Memᴰ·tail k)) (λ v k. go v (List·Memᴰ·cases-cons k)) obey
     where
-      t : InTurn n some c (stepOf c (Writes a (w .key) (w .value) client) .cluster)
+      t : InTurn z c (stepOf c (Writes a (w .key) (w .value) client) .cluster)
       t = next N (comes (Writes a (w .key) (w .value) client)) (h .0)
 
-      go : (v : AnsweredWrite) → (v ≡ w) ⊎ Among v ws → Stood n some (stepOf c (Writes a (w .key) (w .value) client) .cluster) v
+      go : (v : AnsweredWrite) → (v ≡ w) ⊎ Among v ws → Stood z (stepOf c (Writes a (w .key) (w .value) client) .cluster) v
       go v (inl e) = rw e (wrote N a client w told t)
       go v (inr k) = stood-on t (stood v k)
   made-obey (reads {c = c} {rs = rs} q key asked session value position time told asks m) N h begins stood obey =
@@ -95,17 +96,17 @@ good-log {g = g} k =
 
 pub honest-phone : HonestPromised
 unfolding AllObey listOk checkedOf
-honest-phone n run rs g two seven h made few holds =
+honest-phone z run rs g h made few holds =
     decided-clear Refused (firstBreaker (length rs) (obeysAt (entriesOf g) rs)) ((couldHold g, IllFormed) ∷ (listOk rs (length rs), OutOfRange) ∷ [])
     (holds .could-hold, (and-both _ _ (le-leb (length rs) mostRecords few) (every-all _ (length rs) (λ i l. obey i l .0)), tt))
     ∙ none-breaks (length rs) (obeysAt (entriesOf g) rs) (λ i l. obey i l .1)
   where
-    begins : (y : Cluster) → Among y (recordsOf (freshCluster n) run) → (i : ℕ) → i < n → Beginning (covered (serverAt y i)) (entriesOf g)
+    begins : (y : Cluster) → Among y (recordsOf (freshOf z) run) → (i : ℕ) → i < z .servers → Beginning (covered (serverAt y i)) (entriesOf g)
     begins y k i l =
         beginning-trans
-        (beginning (covered (serverAt y i)) (longestCovered (freshCluster n) run) (longest-beginning n run two seven h .begins-with _ (record { moment = y; of-the-run = k; server = i; counted = l; is = refl })))
-        (beginning (longestCovered (freshCluster n) run) (entriesOf g) (holds .begins))
+        (beginning (covered (serverAt y i)) (longestCovered (freshOf z) run) (longest-beginning z run h .begins-with _ (record { moment = y; of-the-run = k; server = i; counted = l; is = refl })))
+        (beginning (longestCovered (freshOf z) run) (entriesOf g) (holds .begins))
 
     obey : AllObey (entriesOf g) rs
     obey =
-        made-obey (good-log holds) made (begun n (some-of two) two seven) h begins (λ w k. absurd (List·Memᴰ·not-nil k)) (λ i l. absurd (omega arith))
+        made-obey (good-log holds) made (begun z) h begins (λ w k. absurd (List·Memᴰ·not-nil k)) (λ i l. absurd (omega arith))

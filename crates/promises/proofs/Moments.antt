@@ -15,6 +15,7 @@ use Rattle.log.proofs.Common.{first-beginning}
 use Rattle.cluster.specs.declared.Cluster.{Cluster}
 use Rattle.cluster.specs.Servers.{serverCount, serverAt}
 use Rattle.reads.specs.MajorityRead.{covered}
+use Rattle.wholes.specs.Starts.{Opening, freshOf}
 use Rattle.safety.proofs.Joins.{commit-within, matching-later}
 use Rattle.safety.proofs.Demand3.{demand3}
 use Rattle.safety.proofs.Views.{fresh-seen, fits-time, same-entry, first-same}
@@ -26,27 +27,27 @@ use Rattle.promises.proofs.Turns.{InTurn, itself, then, next}
 
 -- ---- one moment after another
 
-module _ {n : ℕ} {some : 0 < n} where
+module _ {z : Opening} where
   -- every moment of a run comes after its beginning
-  pub since : {c : Cluster} → Now n some c → (es : List Event) → Onward c es → (y : Cluster) → Among y (recordsOf c es) → InTurn n some c y
+  pub since : {c : Cluster} → Now z c → (es : List Event) → Onward c es → (y : Cluster) → Among y (recordsOf c es) → InTurn z c y
   since {c} N [] h y m = go (List·Memᴰ·cases-cons m)
     where
-      go : (y ≡ c) ⊎ Among y [] → InTurn n some c y
+      go : (y ≡ c) ⊎ Among y [] → InTurn z c y
       go (inl q) = rw q (itself N)
       go (inr k) = absurd (List·Memᴰ·not-nil k)
   since {c} N (e ∷ es) h y m = go (List·Memᴰ·cases-cons m) (λ k. since (next N e (h .0) .later) es (h .1) y k)
     where
-      go : (y ≡ c) ⊎ Among y (recordsOf (happens c e) es) → (Among y (recordsOf (happens c e) es) → InTurn n some (happens c e) y)
-          → InTurn n some c y
+      go : (y ≡ c) ⊎ Among y (recordsOf (happens c e) es) → (Among y (recordsOf (happens c e) es) → InTurn z (happens c e) y)
+          → InTurn z c y
       go (inl q) later = rw q (itself N)
       go (inr k) later = then (next N e (h .0)) (later k)
 
   -- of two moments one comes after the other
-  pub in-turn : {c : Cluster} → Now n some c → (es : List Event) → Onward c es → (x y : Cluster) → Among x (recordsOf c es) → Among y (recordsOf c es)
-      → InTurn n some x y ⊎ InTurn n some y x
+  pub in-turn : {c : Cluster} → Now z c → (es : List Event) → Onward c es → (x y : Cluster) → Among x (recordsOf c es) → Among y (recordsOf c es)
+      → InTurn z x y ⊎ InTurn z y x
   in-turn {c} N [] h x y mx my = go (List·Memᴰ·cases-cons mx)
     where
-      go : (x ≡ c) ⊎ Among x [] → InTurn n some x y ⊎ InTurn n some y x
+      go : (x ≡ c) ⊎ Among x [] → InTurn z x y ⊎ InTurn z y x
       go (inl q) = inl (rw q (since N [] h y my))
       go (inr k) = absurd (List·Memᴰ·not-nil k)
   in-turn {c} N (e ∷ es) h x y mx my =
@@ -55,23 +56,23 @@ module _ {n : ℕ} {some : 0 < n} where
       rest : List Cluster
       rest = recordsOf (happens c e) es
 
-      go : (x ≡ c) ⊎ Among x rest → (y ≡ c) ⊎ Among y rest → (Among x rest → Among y rest → InTurn n some x y ⊎ InTurn n some y x)
-          → InTurn n some x y ⊎ InTurn n some y x
+      go : (x ≡ c) ⊎ Among x rest → (y ≡ c) ⊎ Among y rest → (Among x rest → Among y rest → InTurn z x y ⊎ InTurn z y x)
+          → InTurn z x y ⊎ InTurn z y x
       go (inl q) w later = inl (rw q (since N (e ∷ es) h y my))
       go (inr k) (inl q) later = inr (rw q (since N (e ∷ es) h x mx))
       go (inr k) (inr l) later = later k l
 
   -- ---- what holds at one moment
 
-  module _ {c : Cluster} (N : Now n some c) where
-    pub all-counted : serverCount c ≡ n
+  module _ {c : Cluster} (N : Now z c) where
+    pub all-counted : serverCount c ≡ z .servers
     all-counted = omega (arith, N .counted, N .few)
 
-    log-fits : (i : ℕ) → i < n → FitsLog (serverAt c i .log)
+    log-fits : (i : ℕ) → i < z .servers → FitsLog (serverAt c i .log)
     log-fits i h = N .fits .each i (omega (arith, N .few)) .log
 
     pub within : (i : ℕ) → serverAt c i .head .commit ≤ lengthOf (serverAt c i .log)
-    within i = commit-within (fresh-seen n) (N .walk) i
+    within i = commit-within (fresh-seen (z .servers) (z .followers)) (N .walk) i
 
     -- as many entries are covered as the commit point says
     pub covered-long : (i : ℕ) → length (covered (serverAt c i)) ≡ serverAt c i .head .commit
@@ -79,12 +80,12 @@ module _ {n : ℕ} {some : 0 < n} where
 
   -- ---- at two moments
 
-  module _ {x y : Cluster} (T : InTurn n some x y) (s q : ℕ) (hs : s < n) (hq : q < n) where
+  module _ {x y : Cluster} (T : InTurn z x y) (s q : ℕ) (hs : s < z .servers) (hq : q < z .servers) where
     -- the first j entries are the same where both commit points cover them
     agree : (j : ℕ) → j ≤ serverAt x s .head .commit → j ≤ serverAt y q .head .commit → take j (live (serverAt x s .log)) ≡ take j (live (serverAt y q .log))
     agree j hx hy =
         first-same (serverAt x s) (serverAt y q) (log-fits (T .earlier) s hs) (log-fits (T .later) q hq) (omega (arith, within (T .earlier) s))
-        (demand3 (fresh-seen n) (T .earlier .walk) (T .walk) s j hx .commits q hy)
+        (demand3 (fresh-seen (z .servers) (z .followers)) (T .earlier .walk) (T .walk) s j hx .commits q hy)
 
     -- a position and a term are one entry
     pub one-entry : (k : ℕ) → k ≤ lengthOf (serverAt x s .log) → k ≤ lengthOf (serverAt y q .log) → entryOf x s k .term ≡ entryOf y q k .term
@@ -92,9 +93,9 @@ module _ {n : ℕ} {some : 0 < n} where
     one-entry k hx hy e =
         same-entry (entryOf x s k) (entryOf y q k) (fits-time (serverAt x s .log) (log-fits (T .earlier) s hs) k)
         (fits-time (serverAt y q .log) (log-fits (T .later) q hq) k)
-        (matching-later (fresh-seen n) (T .earlier .walk) (T .walk) s q k hx hy e k (omega arith))
+        (matching-later (fresh-seen (z .servers) (z .followers)) (T .earlier .walk) (T .walk) s q k hx hy e k (omega arith))
 
-  begins : {x y : Cluster} → Now n some x → Now n some y → (s q : ℕ) → length (covered (serverAt x s)) ≤ length (covered (serverAt y q))
+  begins : {x y : Cluster} → Now z x → Now z y → (s q : ℕ) → length (covered (serverAt x s)) ≤ length (covered (serverAt y q))
       → ((j : ℕ) → j ≤ serverAt x s .head .commit → j ≤ serverAt y q .head .commit → take j (live (serverAt x s .log)) ≡ take j (live (serverAt y q .log)))
       → isBeginning (covered (serverAt x s)) (covered (serverAt y q)) ≡ true
   begins {x} {y} X Y s q l same =
@@ -105,7 +106,7 @@ module _ {n : ℕ} {some : 0 < n} where
       (same k (omega arith) le ∙ sym (take-take k m (live (serverAt y q .log)) le))
 
   -- what is covered at one moment is a beginning of what is covered at another, earlier or later, where that is not shorter
-  pub comparable : {x y : Cluster} → InTurn n some x y ⊎ InTurn n some y x → (s q : ℕ) → s < n → q < n
+  pub comparable : {x y : Cluster} → InTurn z x y ⊎ InTurn z y x → (s q : ℕ) → s < z .servers → q < z .servers
       → length (covered (serverAt x s)) ≤ length (covered (serverAt y q)) → isBeginning (covered (serverAt x s)) (covered (serverAt y q)) ≡ true
   comparable {x} {y} (inl T) s q hs hq l = begins (T .earlier) (T .later) s q l (agree T s q hs hq)
   comparable {x} {y} (inr T) s q hs hq l = begins (T .later) (T .earlier) s q l (λ j a b. sym (agree T q s hq hs j b a))

@@ -9,7 +9,7 @@ use native.Mathlib.Omega.{arith}
 use Rattle.base.proofs.Bools.{or-cases, not-both}
 use Rattle.cluster.specs.declared.Cluster.{Cluster}
 use Rattle.cluster.specs.Servers.{zeroCluster}
-use Rattle.cluster.specs.WellFormed.{wellFormed}
+use Rattle.cluster.specs.WellFormed.{sizeOk, wellFormed}
 use Rattle.steps.specs.declared.Answer.the-variants.{Refused}
 use Rattle.steps.specs.declared.Outcome.{Outcome}
 use Rattle.steps.specs.declared.Refusal.{Refusal}
@@ -32,7 +32,7 @@ use Rattle.promises.specs.Runs.{comes, FromFresh}
 use Rattle.promises.specs.Texts.{Begins, FreshOf}
 use Rattle.promises.proofs.Turns.{leads-next, fresh-on}
 use Rattle.promises.proofs.Demand3.{demand-3}
-use Rattle.promises.proofs.Starts.{start-of, answer-is, answer-of, clear-fresh}
+use Rattle.promises.proofs.Starts.{start-of, answer-is, answer-of, clear-fresh, opening-of}
 
 -- ---- where a record comes from
 
@@ -42,27 +42,29 @@ Came c = (c ≡ zeroCluster) ⊎ FromFresh c
 
 -- before the first start every step but a start is refused
 not-formed : wellFormed zeroCluster ≡ false
-unfolding wellFormed
+unfolding sizeOk wellFormed
 not-formed = refl
 
 only-start : (s : Step) → (isStart s || wellFormed zeroCluster) ≡ true → isStart s ≡ true
 only-start s e = ⊎-elim (λ y. y) (λ w. not-both (wellFormed zeroCluster) w not-formed) (or-cases (isStart s) (wellFormed zeroCluster) e)
 
 -- a start that succeeds begins anew, any other step that is done goes on, and a refused one changes nothing
-came-fresh : {c : Cluster} {n : ℕ} → FreshOf c n → Came c
-came-fresh {c} {n} f =
-    inr (record { count = n; fewest = f .fewest; most = f .most; leads = record { events = []; onward = tt; ends = sym (f .is) } })
+came-fresh : {c : Cluster} {n f : ℕ} → FreshOf c n f → Came c
+came-fresh o =
+    inr (record { opening = opening-of o; leads = record { events = []; onward = tt; ends = sym (o .is) } })
 
-came-start : (c : Cluster) (s : Step) (n : ℕ) → s ≡ Start n → StepDone c s → Came (stepOf c s .cluster)
+came-start : (c : Cluster) (s : Step) (n f : ℕ) → s ≡ Start n f → FitsStep s → StepDone c s → Came (stepOf c s .cluster)
 unfolding rowOf
-came-start c s n e d =
-    came-fresh (subst (λ (t : Step). FreshOf (stepOf c t .cluster) n) (sym e) (clear-fresh c n (subst (λ (t : Step). Clear (rulesOf c t)) e (d .clear))))
+came-start c s n f e fits d =
+    came-fresh
+    (subst (λ (t : Step). FreshOf (stepOf c t .cluster) n f) (sym e)
+    (clear-fresh c n f (subst FitsStep e fits) (subst (λ (t : Step). Clear (rulesOf c t)) e (d .clear))))
 
 came-done : (c : Cluster) (s : Step) → FitsStep s → StepDone c s → Came c → Came (stepOf c s .cluster)
 came-done c s f d = go (isStart s) refl
   where
     go : (b : Bool) → isStart s ≡ b → Came c → Came (stepOf c s .cluster)
-    go true e m = let t = start-of s e in came-start c s (t .0) (t .1) d
+    go true e m = let t = start-of s e in came-start c s (t .0) (t .1) (t .2) f d
     go false e (inl z) = not-both (isStart s) (only-start s (rw z at (d .seen))) e
     go false e (inr m) = inr (fresh-on m (leads-next (comes s) (f, λ y. not-both (isStart s) y e)))
 
@@ -73,9 +75,8 @@ came-step c s f m =
 -- ---- refusal 9
 
 -- a start gives refusal 3 alone
-third : (n : ℕ) {r : Refusal} → Broken (startRules n) r → r ≡ OutOfRange
-third n (here e) = refl
-third n (later e (here f)) = refl
+third : (n f : ℕ) {r : Refusal} → Broken (startRules n f) r → r ≡ OutOfRange
+third n f (here e) = refl
 
 before-start : (s : Step) → stepOf zeroCluster s .answer ≢ Refused BelowCommitPoint
 unfolding rowOf
@@ -85,7 +86,7 @@ before-start s nine = go (refused-why zeroCluster s BelowCommitPoint nine) refl
     go (ill-formed e) q = let z : _≡_ {A = ℕ} 0 1 = cc in omega arith
     go {r} (broken e b) q =
         let t = start-of s (only-start s e) in
-        let q′ : r ≡ OutOfRange = third (t .0) (subst (λ (x : Step). Broken (rulesOf zeroCluster x) r) (t .1) b) in
+        let q′ : r ≡ OutOfRange = third (t .0) (t .1) (subst (λ (x : Step). Broken (rulesOf zeroCluster x) r) (t .2) b) in
         let z : _≡_ {A = ℕ} 0 1 = cc in omega arith
 
 step-9 : (c : Cluster) (s : Step) → Came c → stepOf c s .answer ≢ Refused BelowCommitPoint
@@ -113,15 +114,15 @@ line-9 c l m = go (readStep l)
 -- ---- before the first start
 
 -- a line that begins no cluster there is refused: it is no frame, no start, or a start that is refused
-pub refused-line : (l : List ℕ) → ((n : ℕ) → Begins zeroCluster l n → ⊥) → (r : Refusal) × (answerTo zeroCluster l ≡ refusingAll zeroCluster r)
+pub refused-line : (l : List ℕ) → ((n f : ℕ) → Begins zeroCluster l n f → ⊥) → (r : Refusal) × (answerTo zeroCluster l ≡ refusingAll zeroCluster r)
 unfolding answerTo respond rowOf
 refused-line l none = go (readStep l) refl
   where
     done-begins : (s : Step) → readStep l ≡ R.Step s → StepDone zeroCluster s → ⊥
     done-begins s e d =
         let m = start-of s (only-start s (d .seen)) in
-        let e′ = e ∙ ap R.Step (m .1) in
-        none (m .0) (record { reads = e′; done = answer-of (answer-is zeroCluster l (Start (m .0)) e′) ∙ ap (λ (o : Outcome). o .answer) (step-done zeroCluster (Start (m .0)) refl (subst (λ (t : Step). Clear (rulesOf zeroCluster t)) (m .1) (d .clear))) })
+        let e′ = e ∙ ap R.Step (m .2) in
+        none (m .0) (m .1) (record { reads = e′; done = answer-of (answer-is zeroCluster l (Start (m .0) (m .1)) e′) ∙ ap (λ (o : Outcome). o .answer) (step-done zeroCluster (Start (m .0) (m .1)) refl (subst (λ (t : Step). Clear (rulesOf zeroCluster t)) (m .2) (d .clear))) })
 
     go : (r : ReadStep) → readStep l ≡ r → (q : Refusal) × (respond zeroCluster r ≡ refusingAll zeroCluster q)
     go (R.Step s) e = ⊎-elim (λ d. absurd (done-begins s e d)) (λ d. (d .refusal, d .is)) (step-cases zeroCluster s)

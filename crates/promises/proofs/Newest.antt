@@ -22,19 +22,19 @@ use Rattle.log.proofs.Positions as P
 use Rattle.cluster.specs.declared.Cluster.{Cluster}
 use Rattle.cluster.specs.Servers.{serverAt}
 use Rattle.steps.specs.declared.Step.the-variants.{WritesNothing}
+use Rattle.wholes.specs.Starts.{Opening, freshOf}
 use Rattle.safety.specs.Steps.{Walk}
 use Rattle.safety.specs.NewestSeen.{NewestSeen}
 use Rattle.safety.specs.View.{view, seenCluster}
 use Rattle.promises.specs.Runs.{comes}
 use Rattle.promises.specs.Demand3.{entryOf, firstOf}
 use Rattle.promises.specs.Newest.{Reading, NoneFor, NewestValue, last-of-those, of-a-newer, TakenIn, NewestPromised}
-use Rattle.safety.proofs.Quorum.{majorities}
 use Rattle.safety.proofs.Time.{stamp-before}
 use Rattle.safety.proofs.Joins.{commit-within, times-ordered}
 use Rattle.safety.proofs.NewestSeen as S
 use Rattle.safety.proofs.Views.{fresh-seen, fits-time, first-same}
 use Rattle.promises.proofs.SeenNewest.{Asked, asked-of, Read, read-of}
-use Rattle.safety.proofs.Stepped.{Now}
+use Rattle.safety.proofs.Stepped.{quorums, Now}
 use Rattle.promises.proofs.Turns.{then, next, led, reached}
 
 -- ---- what is read
@@ -69,14 +69,14 @@ module _ {y : Cluster} {r : Reading} (read : Read y r) (long : r .position ≤ l
 -- ---- what it takes in
 
 -- a is asked in x, w is any moment up to x, and r is read in the later y
-module _ {n : ℕ} {some : 0 < n} {w x y : Cluster} (W : Now n some w) (Y : Now n some y)
-    (wx : Walk (majorities n some) (seenCluster w) (seenCluster x)) (xy : Walk (majorities n some) (seenCluster x) (seenCluster y))
+module _ {z : Opening} {w x y : Cluster} (W : Now z w) (Y : Now z y)
+    (wx : Walk (quorums z) (seenCluster w) (seenCluster x)) (xy : Walk (quorums z) (seenCluster x) (seenCluster y))
     {a : ℕ} {r : Reading} (asked : Asked x a r) (read : Read y r) where
   seen : (s k : ℕ) → k ≤ serverAt w s .head .commit → NewestSeen (view w) (view x) (view y) a (r .server) s k
   seen s k cov =
-      S.newest (fresh-seen n) (W .walk) wx xy a (r .server) (asked .primary) (rw (asked .position, asked .term) at (read .answers)) s k cov
+      S.newest (fresh-seen (z .servers) (z .followers)) (W .walk) wx xy a (r .server) (asked .primary) (rw (asked .position, asked .term) at (read .answers)) s k cov
 
-  module _ (s k : ℕ) (hs : s < n) (cov : k ≤ serverAt w s .head .commit) where
+  module _ (s k : ℕ) (hs : s < z .servers) (cov : k ≤ serverAt w s .head .commit) where
     abbrev q : ℕ
     q = r .server
 
@@ -84,10 +84,10 @@ module _ {n : ℕ} {some : 0 < n} {w x y : Cluster} (W : Now n some w) (Y : Now 
     m = r .position
 
     long-w : k ≤ lengthOf (serverAt w s .log)
-    long-w = omega (arith, commit-within (fresh-seen n) (W .walk) s)
+    long-w = omega (arith, commit-within (fresh-seen (z .servers) (z .followers)) (W .walk) s)
 
     long-y : m ≤ lengthOf (serverAt y q .log)
-    long-y = omega (arith, commit-within (fresh-seen n) (Y .walk) q, read .answers .reached)
+    long-y = omega (arith, commit-within (fresh-seen (z .servers) (z .followers)) (Y .walk) q, read .answers .reached)
 
     log-w : FitsLog (serverAt w s .log)
     log-w = W .fits .each s (omega (arith, W .few)) .log
@@ -111,7 +111,7 @@ module _ {n : ℕ} {some : 0 < n} {w x y : Cluster} (W : Now n some w) (Y : Now 
     newer-time p l h =
         rw (same-at k (omega arith))
         (stamp-before (entryOf y q k .time) (entryOf y q p .time) (fits-time (serverAt y q .log) log-y p)
-        (times-ordered (fresh-seen n) (Y .walk) q k p l (omega (arith, long-y))))
+        (times-ordered (fresh-seen (z .servers) (z .followers)) (Y .walk) q k p l (omega (arith, long-y))))
 
     shown : NewestValue w y s k r
     shown = by-cases (decLe p k) those (λ h. above (omega arith))

@@ -74,7 +74,7 @@ overtaken = Elect 0 3 ∷ Elect 1 6 ∷ Writes 1 5 42 zeroTime ∷ Pulls 2 1 ∷
 
 pub behind : Cluster
 unfolding moment mayAsk hasEntry
-behind = runTo (freshCluster 3) (coming overtaken)
+behind = runTo (freshCluster 3 0) (coming overtaken)
 
 pub covered : serverAt behind 1 .head .commit ≡ 1
 unfolding behind
@@ -98,4 +98,4 @@ pub never-answered : (y : Cluster) → LeadsTo (stepOf behind (WritesNothing 0) 
     → stepOf y (NewestRead q key 1 1) .answer ≢ Value v t
 unfolding behind
 never-answered y l q key v t e =
-    omega (arith, newest-read behind behind y 0 (record { server = q; key = key; position = 1; term = 1; value = v; time = t }) (record { p = 1; l = 0 }) (three-fresh (lead-on (freshCluster 3) overtaken (omega arith ▸ omega arith ▸ omega arith ▸ omega arith ▸ omega arith ▸ omega arith ▸ tt))) (lead-on behind [] tt) refl l e .taken-in 1 1 (omega arith) (omega arith) (omega arith) .below)
+    omega (arith, newest-read behind behind y 0 (record { server = q; key = key; position = 1; term = 1; value = v; time = t }) (record { p = 1; l = 0 }) (three-fresh (lead-on (freshCluster 3 0) overtaken (omega arith ▸ omega arith ▸ omega arith ▸ omega arith ▸ omega arith ▸ omega arith ▸ tt))) (lead-on behind [] tt) refl l e .taken-in 1 1 (omega arith) (omega arith) (omega arith) .below)

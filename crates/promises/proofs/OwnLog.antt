@@ -26,6 +26,7 @@ use Rattle.reads.specs.MajorityRead.{covered}
 use Rattle.rules.proofs.Logs.{log-raised}
 use Rattle.histories.specs.Committed.{committedLimit, entriesOn, entriesOf, sameLengths, couldHold}
 use Rattle.histories.specs.Longest.{columnsOf}
+use Rattle.wholes.specs.Starts.{Opening, freshOf}
 use Rattle.safety.specs.Time.{stamp}
 use Rattle.safety.proofs.Joins.{times-ordered}
 use Rattle.safety.proofs.Views.{fresh-seen}
@@ -55,7 +56,7 @@ columns-hold es short o =
 
 -- ---- what is covered
 
-module _ {n : ℕ} {some : 0 < n} {c : Cluster} (N : Now n some c) (i : ℕ) (l : i < n) where
+module _ {z : Opening} {c : Cluster} (N : Now z c) (i : ℕ) (l : i < z .servers) where
   abbrev es : List Entry
   es = covered (serverAt c i)
 
@@ -73,7 +74,7 @@ module _ {n : ℕ} {some : 0 < n} {c : Cluster} (N : Now n some c) (i : ℕ) (l 
   not-zero : (k : ℕ) → 1 ≤ k → k ≤ length es → entryAt es k .time ≢ zeroTime
   unfolding entryAt
   not-zero k one h e =
-      let later = times-ordered (fresh-seen n) (N .walk) i 0 k one (omega (arith, covered-long N i, within N i)) in
+      let later = times-ordered (fresh-seen (z .servers) (z .followers)) (N .walk) i 0 k one (omega (arith, covered-long N i, within N i)) in
       let same = ap (λ (e : Entry). stamp (e .time)) (entryAt-take (serverAt c i .head .commit) k (live (serverAt c i .log)) (omega (arith, covered-long N i))) in
       omega (arith, ap stamp e)
 

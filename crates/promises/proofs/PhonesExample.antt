@@ -31,7 +31,7 @@ use Rattle.histories.specs.Longest.{longestUpto}
 use Rattle.promises.specs.Runs.{Event, comes, runTo, Onward}
 use Rattle.promises.specs.Longest.{longestCovered, HoldsAll}
 use Rattle.promises.specs.Honest.{AnsweredWrite, Made, ends, goes, writes, reads, acknowledges, recordOfWrite, recordOfRead, AsksLatest}
-use Rattle.promises.proofs.RoofExample.{coming, build, moment, none-starts}
+use Rattle.promises.proofs.RoofExample.{coming, build, moment, none-starts, three}
 use Rattle.promises.proofs.Honest.{honest-phone}
 
 abbrev at : ℕ → Time
@@ -62,7 +62,7 @@ run = coming steps
 
 pub end : Cluster
 unfolding moment mayAsk hasEntry
-end = runTo (freshCluster 3) run
+end = runTo (freshCluster 3 0) run
 
 -- ---- the records
 
@@ -91,11 +91,11 @@ unfolding end
 rolled-back = refl
 
 -- build 40 is not acknowledged before server 0 restarts
-pub not-acknowledged : stepOf (runTo (freshCluster 3) (coming (first ++ (Writes 0 5 40 zeroTime ∷ [])))) (Acknowledged 0 0 2 1) .answer ≡ A.Refused NotYet
+pub not-acknowledged : stepOf (runTo (freshCluster 3 0) (coming (first ++ (Writes 0 5 40 zeroTime ∷ [])))) (Acknowledged 0 0 2 1) .answer ≡ A.Refused NotYet
 unfolding end
 not-acknowledged = refl
 
-pub longest-is : longestCovered (freshCluster 3) run ≡ build 1 41 0 ∷ build 2 42 1 ∷ []
+pub longest-is : longestCovered (freshCluster 3 0) run ≡ build 1 41 0 ∷ build 2 42 1 ∷ []
 unfolding end longestUpto
 longest-is = refl
 
@@ -126,7 +126,7 @@ asks (r ∷ rs) session asked h e m = go (List·Memᴰ·cases-cons m) (λ k. ask
 another : {A : Type 0} {m n : ℕ} → eqb m n ≡ false → m ≡ n → A
 another {m = m} {n = n} differ e = absurd (eqb-false m n differ e)
 
-pub made : Made (freshCluster 3) run [] [] records
+pub made : Made (freshCluster 3 0) run [] [] records
 unfolding end
 made =
     goes (comes (Elect 0 3))
@@ -153,9 +153,9 @@ made =
     (reads 1 5 (at 0) 2 42 0 (at 1) refl (asks (take 4 records) 2 (at 0) (another refl, (λ e. refl, (another refl, (another refl, tt)))))
     (goes (comes (MajorityRead 1 5 (at 0))) ends))))))))))))))))))))))
 
-onward : Onward (freshCluster 3) run
+onward : Onward (freshCluster 3 0) run
 onward =
-    none-starts (freshCluster 3) steps
+    none-starts (freshCluster 3 0) steps
     (omega arith ▸ omega arith ▸ omega arith ▸ omega arith ▸ omega arith ▸ omega arith ▸ omega arith ▸ omega arith ▸ omega arith ▸ omega arith ▸ omega arith ▸ omega arith ▸ omega arith ▸ omega arith ▸ omega arith ▸ omega arith ▸ omega arith ▸ omega arith ▸ tt)
 
 -- its times are after (0,0)
@@ -165,10 +165,11 @@ some-time zero one l e = omega arith
 some-time (suc i) one l e =
     omega (arith, case-at (λ i. 1 ≤ entryAt (entriesOf committed) (suc i) .time .p) 3 (omega arith) i l, ap (λ (t : Time). t .p) e)
 
-holds-all : HoldsAll (longestCovered (freshCluster 3) run) committed
+holds-all : HoldsAll (longestCovered (freshCluster 3 0) run) committed
 unfolding longest-is checked
 holds-all = record { could-hold = refl; begins = refl; none-at-zero = some-time }
 
 -- by the promise, and not by computing
 pub accepted : checkOf records committed ≡ Accepted
-accepted = honest-phone 3 run records committed (omega arith) (omega arith) onward made (omega arith) holds-all
+unfolding three
+accepted = honest-phone three run records committed onward made (omega arith) holds-all

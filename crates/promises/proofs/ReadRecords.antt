@@ -29,6 +29,7 @@ use Rattle.cluster.specs.Servers.{serverCount, serverAt}
 use Rattle.steps.specs.declared.Step.the-variants.{MajorityRead}
 use Rattle.steps.specs.declared.Answer.the-variants as A
 use Rattle.reads.specs.MajorityRead.{commitTime, covered}
+use Rattle.wholes.specs.Starts.{Opening, freshOf}
 use Rattle.rules.specs.Rules.{stepOf}
 use Rattle.safety.proofs.Stepped.{Now}
 use Rattle.histories.specs.declared.PhoneRecord.{PhoneRecord}
@@ -123,8 +124,8 @@ in-order rs r asked h late = every-all _ (length rs) (λ i l. one (getD rs i noR
 
 -- ---- the record
 
-module _ {n : ℕ} {some : 0 < n} {c : Cluster} (N : Now n some c) {es : List Entry} (o : GoodLog es)
-    (within : (i : ℕ) → i < n → Beginning (covered (serverAt c i)) es) where
+module _ {z : Opening} {c : Cluster} (N : Now z c) {es : List Entry} (o : GoodLog es)
+    (within : (i : ℕ) → i < z .servers → Beginning (covered (serverAt c i)) es) where
   applied-is : (q : ℕ) → appliedTime (covered (serverAt c q)) ≡ commitTime (serverAt c q)
   applied-is q =
       let s = serverAt c q in

@@ -22,8 +22,8 @@ use Rattle.mail.specs.Mails.{noted}
 use Rattle.mail.specs.Order.{isUnused, isUsed, noteOk, notesOk, slotOk, queueOk, sourceOk, mailOk}
 use Rattle.cluster.specs.declared.Cluster.{Cluster}
 use Rattle.cluster.specs.Servers.{serverAt, startedOf, freshCluster, votedOf}
-use Rattle.cluster.specs.Sets.{member, isWithin}
-use Rattle.cluster.specs.WellFormed.{numbersOk, countedOk, zeroOk, serverOk, wellFormed}
+use Rattle.cluster.specs.Sets.{member, isWithin, isApart}
+use Rattle.cluster.specs.WellFormed.{numbersOk, countedOk, zeroOk, serverOk, sizeOk, wellFormed}
 use Rattle.steps.specs.declared.Step.{Step}
 use Rattle.steps.specs.declared.Step.the-variants.{Start, Elect, Pulls, RollsBack, Writes, Advances, Restarts, MajorityRead, TakesReport}
 use Rattle.steps.specs.declared.Answer.{Answer}
@@ -34,7 +34,8 @@ use Rattle.steps.specs.Ranges.{FitsStep}
 use Rattle.pairs.specs.Pulls.{tookOf}
 use Rattle.singles.specs.Appends.{stampedOf}
 use Rattle.singles.specs.TakesReport.{forwards}
-use Rattle.wholes.specs.Elects.{notBehind, mayVote, allMayVote}
+use Rattle.wholes.specs.Elects.{notBehind, mayVote, allMayVote, areVoters}
+use Rattle.wholes.specs.Starts.{Opening}
 use Rattle.counts.specs.Advances.{backs, passes, highestPassing}
 use Rattle.rules.specs.Rules.{delivered, rowOf, coreOf, stepOf}
 use Rattle.promises.specs.Runs.{Event, comes, runTo, Onward, LeadsTo, FromFresh}
@@ -53,7 +54,7 @@ until = Elect 0 3 ∷ Writes 0 5 41 zeroTime ∷ Pulls 1 0 ∷ TakesReport 0 ∷
 
 -- server 0 writes build 40, which nobody pulls, and restarts; two starts and a write are refused
 abbrev lost : List Step
-lost = Writes 0 5 40 zeroTime ∷ Restarts 0 ∷ Start 1 ∷ Start 8 ∷ Writes 0 5 39 zeroTime ∷ []
+lost = Writes 0 5 40 zeroTime ∷ Restarts 0 ∷ Start 1 0 ∷ Start 8 0 ∷ Writes 0 5 39 zeroTime ∷ []
 
 -- server 1 wins term 2 and writes build 42; server 0 rolls back to it and reports, and server 1's commit point covers it
 abbrev regained : List Step
@@ -64,8 +65,8 @@ build term value l = record { term = term; key = 5; value = value; time = record
 
 -- the record at the moment, before the rollback, and at the end
 unfoldable pub moment : Cluster
-unfolding every count highest eachFrom isBefore sameTime laterOf tickOf sameEntry entryAt equalAt commonBeginning latestValue hasRoom appended entryOk follows placeOk inOrder restZero isEmptyLog logOk givesWay queued oldestTaken noted isUnused isUsed noteOk notesOk slotOk queueOk sourceOk mailOk startedOf votedOf member isWithin numbersOk countedOk zeroOk latestAfter rowOk rowsOk serverOk wellFormed tookOf stampedOf forwards notBehind mayVote allMayVote backs passes highestPassing delivered rowOf coreOf stepOf
-moment = runTo (freshCluster 3) (coming until)
+unfolding every count highest eachFrom isBefore sameTime laterOf tickOf sameEntry entryAt equalAt commonBeginning latestValue hasRoom appended entryOk follows placeOk inOrder restZero isEmptyLog logOk givesWay queued oldestTaken noted isUnused isUsed noteOk notesOk slotOk queueOk sourceOk mailOk startedOf votedOf member isWithin numbersOk countedOk zeroOk latestAfter rowOk rowsOk serverOk isApart sizeOk wellFormed tookOf stampedOf forwards notBehind mayVote allMayVote areVoters backs passes highestPassing delivered rowOf coreOf stepOf
+moment = runTo (freshCluster 3 0) (coming until)
 
 pub between : Cluster
 unfolding moment
@@ -122,12 +123,18 @@ none-starts c (s ∷ ss) h =
 pub lead-on : (c : Cluster) (ss : List Step) → Others ss → LeadsTo c (runTo c (coming ss))
 lead-on c ss h = record { events = coming ss; onward = none-starts c ss h; ends = refl }
 
-pub three-fresh : {c : Cluster} → LeadsTo (freshCluster 3) c → FromFresh c
-three-fresh l = record { count = 3; fewest = omega arith; most = omega arith; leads = l }
+-- a start of three servers that all vote is allowed
+unfoldable pub three : Opening
+unfolding moment
+three = record { servers = 3; followers = 0; fits = omega arith; allowed = refl }
+
+pub three-fresh : {c : Cluster} → LeadsTo (freshCluster 3 0) c → FromFresh c
+unfolding three
+three-fresh l = record { opening = three; leads = l }
 
 pub from-fresh : FromFresh moment
 unfolding moment
-from-fresh = three-fresh (lead-on (freshCluster 3) until (omega arith ▸ omega arith ▸ omega arith ▸ omega arith ▸ omega arith ▸ tt))
+from-fresh = three-fresh (lead-on (freshCluster 3 0) until (omega arith ▸ omega arith ▸ omega arith ▸ omega arith ▸ omega arith ▸ tt))
 
 not-done : {A : Type 0} {r : Refusal} → _≡_ {A = Answer} (Refused r) Done → A
 not-done e = let z : _≡_ {A = ℕ} 0 1 = cc in absurd (omega arith)

@@ -32,7 +32,7 @@ onwards = Writes 2 5 42 zeroTime ∷ Hears 0 2 ∷ Pulls 0 2 ∷ TakesReport 2 �
 
 unfoldable pub moment : Cluster
 unfolding example takesCommit heardOf
-moment = runTo (freshCluster 3) (coming until)
+moment = runTo (freshCluster 3 0) (coming until)
 
 pub end : Cluster
 unfolding moment
@@ -80,4 +80,4 @@ covered-by-both = refl
 pub kept : Kept moment end 0 1
 unfolding end moment
 kept =
-    demand-3 moment end (three-fresh (lead-on (freshCluster 3) until (omega arith ▸ omega arith ▸ omega arith ▸ omega arith ▸ omega arith ▸ omega arith ▸ tt))) (lead-on moment onwards (omega arith ▸ omega arith ▸ omega arith ▸ omega arith ▸ omega arith ▸ tt)) .kept 0 1 (omega arith) (omega arith) (omega arith)
+    demand-3 moment end (three-fresh (lead-on (freshCluster 3 0) until (omega arith ▸ omega arith ▸ omega arith ▸ omega arith ▸ omega arith ▸ omega arith ▸ tt))) (lead-on moment onwards (omega arith ▸ omega arith ▸ omega arith ▸ omega arith ▸ omega arith ▸ tt)) .kept 0 1 (omega arith) (omega arith) (omega arith)

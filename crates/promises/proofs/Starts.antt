@@ -1,29 +1,29 @@
--- A start line that is answered with done begins a fresh cluster of two to seven servers. Assumes nothing.
+-- A start line that is answered with done begins a fresh cluster, with the followers that it names. Assumes nothing.
 use mathlib.Core.Path.{_≡_, refl, ap, sym, _∙_}
 use mathlib.Core.Bool.{true, false}
 use mathlib.Core.List.{List}
 use Prim.Native.Nat.{ℕ}
-use borrow.Author.Tests.{leb-true}
 use Rattle.base.proofs.Bools.{not-both}
 use Rattle.cluster.specs.declared.Cluster.{Cluster}
-use Rattle.cluster.specs.Servers.{fewestServers, mostServers}
 use Rattle.steps.specs.declared.Answer.the-variants.{Done}
 use Rattle.steps.specs.declared.Outcome.{Outcome}
 use Rattle.steps.specs.declared.Step.{Step}
 use Rattle.steps.specs.declared.Step.the-variants.{Start, Elect, StepDown, Hears, Pulls, RollsBack, Writes, Advances, WallClock, Restarts, LocalRead, MajorityRead, Acknowledged, ClocksAgree, WritesNothing, NewestRead, TakesReport}
+use Rattle.steps.specs.Ranges.{FitsStep}
 use Rattle.steps.specs.Reasons.{Clear}
-use Rattle.wholes.specs.Starts.{startRules}
+use Rattle.wholes.specs.Starts.{startRules, Opening}
 use Rattle.rules.specs.Rules.{rowOf, isStart, stepOf}
 use Rattle.rules.proofs.Keeps.{start-fresh}
 use Rattle.rules.proofs.Outcomes.{answered-done}
 use Rattle.frames.specs.declared.ReadStep.the-variants as R
 use Rattle.frames.specs.Steps.{readStep}
+use Rattle.frames.proofs.Steps.{read-step-fits}
 use Rattle.replay.specs.Texts.{respond, answerTo}
 use Rattle.promises.specs.Texts.{Begins, FreshOf}
 
--- a start names its servers
-pub start-of : (s : Step) → isStart s ≡ true → (n : ℕ) × (s ≡ Start n)
-start-of (Start n) e = (n, refl)
+-- a start names its servers and its followers
+pub start-of : (s : Step) → isStart s ≡ true → (n : ℕ) × (f : ℕ) × (s ≡ Start n f)
+start-of (Start n f) e = (n, f, refl)
 start-of (Elect a m) e = not-both false e refl
 start-of (StepDown a) e = not-both false e refl
 start-of (Hears a b) e = not-both false e refl
@@ -49,13 +49,18 @@ answer-is c line s e = ap (respond c) e
 pub answer-of : {o p : Outcome} → o ≡ p → o .answer ≡ p .answer
 answer-of e = ap (λ (o : Outcome). o .answer) e
 
-pub clear-fresh : (c : Cluster) (n : ℕ) → Clear (startRules n) → FreshOf (stepOf c (Start n) .cluster) n
-clear-fresh c n k = record { fewest = leb-true fewestServers n (k .0); most = leb-true n mostServers (k .1 .0); is = start-fresh c n k }
+pub clear-fresh : (c : Cluster) (n f : ℕ) → FitsStep (Start n f) → Clear (startRules n f) → FreshOf (stepOf c (Start n f) .cluster) n f
+clear-fresh c n f fits k = record { fits = fits; allowed = k .0; is = start-fresh c n f k }
 
-start-clear : (c : Cluster) (n : ℕ) → stepOf c (Start n) .answer ≡ Done → Clear (startRules n)
+-- it is an opening
+abbrev pub opening-of : {c : Cluster} {n f : ℕ} → FreshOf c n f → Opening
+opening-of {n = n} {f = f} o = record { servers = n; followers = f; fits = o .fits; allowed = o .allowed }
+
+start-clear : (c : Cluster) (n f : ℕ) → stepOf c (Start n f) .answer ≡ Done → Clear (startRules n f)
 unfolding rowOf
-start-clear c n d = answered-done c (Start n) d refl .clear
+start-clear c n f d = answered-done c (Start n f) d refl .clear
 
-pub begins-fresh : (c : Cluster) (start : List ℕ) (n : ℕ) → Begins c start n → FreshOf (answerTo c start .cluster) n
-begins-fresh c start n b =
-    let e = answer-is c start (Start n) (b .reads) in rw e (clear-fresh c n (start-clear c n (sym (answer-of e) ∙ b .done)))
+pub begins-fresh : (c : Cluster) (start : List ℕ) (n f : ℕ) → Begins c start n f → FreshOf (answerTo c start .cluster) n f
+begins-fresh c start n f b =
+    let e = answer-is c start (Start n f) (b .reads) in
+    rw e (clear-fresh c n f (read-step-fits start (Start n f) (b .reads)) (start-clear c n f (sym (answer-of e) ∙ b .done)))

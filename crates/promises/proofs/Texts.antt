@@ -5,16 +5,16 @@ use mathlib.Core.Bool.{true}
 use mathlib.Core.List.{List, [], _∷_, _++_, map}
 use Prim.Native.Nat.{ℕ, _≤_, _<_}
 use native.Mathlib.Omega.{arith}
-use borrow.Author.Tests.{le-leb}
 use Rattle.cluster.specs.declared.Cluster.{Cluster}
-use Rattle.cluster.specs.Servers.{fewestServers, mostServers, zeroCluster, freshCluster}
+use Rattle.cluster.specs.Servers.{zeroCluster}
 use Rattle.steps.specs.declared.Answer.the-variants.{Done}
 use Rattle.steps.specs.declared.Outcome.{Outcome}
 use Rattle.steps.specs.declared.Step.{Step}
 use Rattle.steps.specs.declared.Step.the-variants.{Start}
 use Rattle.steps.specs.Fields.{frameFor}
 use Rattle.steps.specs.Ranges.{FitsStep}
-use Rattle.wholes.specs.Starts.{startDone}
+use Rattle.wholes.specs.Starts.{startDone, Opening, freshOf}
+use Rattle.wholes.specs.Starts.{Opening, freshOf}
 use Rattle.rules.specs.Rules.{rowOf, isStart, stepOf}
 use Rattle.rules.proofs.Outcomes.{step-done}
 use Rattle.frames.specs.declared.ReadStep.{ReadStep}
@@ -27,7 +27,7 @@ use Rattle.replay.specs.Texts.{respond, answerTo, recordAfter}
 use Rattle.safety.proofs.Stepped.{Now, begun}
 use Rattle.promises.specs.Runs.{Event, comes, overnight, happens, runTo, Onward}
 use Rattle.promises.specs.Texts.{Given, a-line, a-night, takenAll, NoneBegins, withRead, eventsIn, IsRun, TextsAreRuns, linesFor, RunsAreTexts}
-use Rattle.promises.proofs.Turns.{given-back, next, some-of}
+use Rattle.promises.proofs.Turns.{given-back, next}
 use Rattle.promises.proofs.Starts.{start-of, answer-is, answer-of, begins-fresh}
 use Rattle.promises.proofs.Written.{hex-line}
 
@@ -42,7 +42,7 @@ is-run c (a-line l ∷ gs) h = let p = go (readStep l) refl (λ d. is-run d gs) 
   where
     no-start : (s : Step) → readStep l ≡ R.Step s → isStart s ≡ true → stepOf c s .answer ≢ Done
     no-start s e y d =
-        let m = start-of s y in h .0 (m .0) (record { reads = e ∙ ap R.Step (m .1); done = answer-of (answer-is c l s e) ∙ d })
+        let m = start-of s y in h .0 (m .0) (m .1) (record { reads = e ∙ ap R.Step (m .2); done = answer-of (answer-is c l s e) ∙ d })
 
     go : (r : ReadStep) → readStep l ≡ r → ((d : Cluster) → NoneBegins d gs → IsRun d gs) → NoneBegins (respond c r .cluster) gs
         → Onward c (withRead r (eventsIn gs)) × (runTo c (withRead r (eventsIn gs)) ≡ takenAll (respond c r .cluster) gs)
@@ -71,13 +71,14 @@ text-lines (overnight d ∷ run) = text-lines run
 line-is : (c : Cluster) (s : Step) → FitsStep s → answerTo c (writeStep s) ≡ stepOf c s
 line-is c s f = answer-is c (writeStep s) s (read-written-step s f)
 
-start-is : (n : ℕ) → fewestServers ≤ n → n ≤ mostServers → answerTo zeroCluster (writeStep (Start n)) ≡ startDone n
+start-is : (z : Opening) → answerTo zeroCluster (writeStep (Start (z .servers) (z .followers))) ≡ startDone (z .servers) (z .followers)
 unfolding rowOf
-start-is n two seven =
-    line-is zeroCluster (Start n) (omega arith) ∙ step-done zeroCluster (Start n) refl (le-leb fewestServers n two, (le-leb n mostServers seven, tt))
+start-is z =
+    let s = Start (z .servers) (z .followers) in
+    line-is zeroCluster s (z .fits) ∙ step-done zeroCluster s refl (z .allowed, tt)
 
 -- the lines of a run's beginning lead to its record
-same-record : {n : ℕ} {some : 0 < n} {c : Cluster} → Now n some c → (es more : List Event) → Onward c (es ++ more) → recordAfter c (linesFor es) ≡ runTo c es
+same-record : {z : Opening} {c : Cluster} → Now z c → (es more : List Event) → Onward c (es ++ more) → recordAfter c (linesFor es) ≡ runTo c es
 same-record N [] more h = refl
 same-record {c = c} N (comes s ∷ es) more h =
     ap (λ (o : Outcome). recordAfter (o .cluster) (linesFor es)) (line-is c s (h .0 .0)) ∙ same-record (next N (comes s) (h .0) .later) es more (h .1)
@@ -85,11 +86,11 @@ same-record {c = c} N (overnight d ∷ es) more h =
     ap (λ (x : Cluster). recordAfter x (linesFor es)) (sym (given-back N d)) ∙ same-record (next N (overnight d) tt .later) es more (h .1)
 
 pub runs-are-texts : RunsAreTexts
-runs-are-texts n run two seven h =
+runs-are-texts z run h =
+    let s = Start (z .servers) (z .followers) in
     record {
-      text = unlines (writeStep (Start n) ∷ linesFor run);
-      is = text-lines (comes (Start n) ∷ run);
+      text = unlines (writeStep s ∷ linesFor run);
+      is = text-lines (comes s ∷ run);
       moments = λ es more e.
-          ap (λ (o : Outcome). recordAfter (o .cluster) (linesFor es)) (start-is n two seven)
-          ∙ same-record (begun n (some-of two) two seven) es more (subst (Onward (freshCluster n)) e h);
+          ap (λ (o : Outcome). recordAfter (o .cluster) (linesFor es)) (start-is z) ∙ same-record (begun z) es more (subst (Onward (freshOf z)) e h);
     }

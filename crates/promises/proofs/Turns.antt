@@ -5,56 +5,52 @@ use mathlib.Core.List.{List, [], _∷_, _++_}
 use Prim.Native.Nat.{ℕ, _≤_, _<_}
 use native.Mathlib.Omega.{arith}
 use Rattle.cluster.specs.declared.Cluster.{Cluster}
-use Rattle.cluster.specs.Servers.{fewestServers}
 use Rattle.steps.specs.declared.Outcome.{Outcome}
 use Rattle.saved.specs.Saved.{saveOf}
 use Rattle.loads.specs.Loads.{loaded, loadOf}
 use Rattle.loads.proofs.Loads.{gives-back}
+use Rattle.wholes.specs.Starts.{Opening, freshOf}
 use Rattle.safety.specs.Steps.{Walk, stop, go}
 use Rattle.safety.specs.View.{seenCluster}
-use Rattle.safety.proofs.Quorum.{majorities}
 use Rattle.safety.proofs.Joins.{walk-on}
-use Rattle.safety.proofs.Stepped.{Now, step-next, now-next, begun}
+use Rattle.safety.proofs.Stepped.{quorums, Now, step-next, now-next, begun}
 use Rattle.promises.specs.Runs.{Event, comes, overnight, happens, runTo, GoesOn, Onward, LeadsTo, FromFresh}
 
 -- ---- one record after another
 
 -- y is reached, and x was on the way to it
-pub record InTurn (n : ℕ) (some : 0 < n) (x y : Cluster) : Type 0 where
-  pub earlier : Now n some x
-  pub later : Now n some y
-  pub walk : Walk (majorities n some) (seenCluster x) (seenCluster y)
+pub record InTurn (z : Opening) (x y : Cluster) : Type 0 where
+  pub earlier : Now z x
+  pub later : Now z y
+  pub walk : Walk (quorums z) (seenCluster x) (seenCluster y)
 
-module _ {n : ℕ} {some : 0 < n} where
-  pub itself : {c : Cluster} → Now n some c → InTurn n some c c
+module _ {z : Opening} where
+  pub itself : {c : Cluster} → Now z c → InTurn z c c
   itself N = record { earlier = N; later = N; walk = stop }
 
-  pub then : {x y z : Cluster} → InTurn n some x y → InTurn n some y z → InTurn n some x z
+  pub then : {c d e : Cluster} → InTurn z c d → InTurn z d e → InTurn z c e
   then a b = record { earlier = a .earlier; later = b .later; walk = walk-on (a .walk) (b .walk) }
 
   -- what is loaded is what was saved
-  pub given-back : {c : Cluster} → Now n some c → (d : Cluster) → happens c (overnight d) ≡ c
+  pub given-back : {c : Cluster} → Now z c → (d : Cluster) → happens c (overnight d) ≡ c
   given-back {c} N d = ap (λ (o : Outcome). o .cluster) (gives-back d c (N .fits) (N .formed))
 
   -- one event on
-  pub next : {c : Cluster} → Now n some c → (e : Event) → GoesOn c e → InTurn n some c (happens c e)
+  pub next : {c : Cluster} → Now z c → (e : Event) → GoesOn c e → InTurn z c (happens c e)
   next N (comes s) g = record { earlier = N; later = now-next N s (g .0) (g .1); walk = go stop (step-next N s (g .0) (g .1) .step) }
-  next {c} N (overnight d) g = subst (InTurn n some c) (sym (given-back N d)) (itself N)
+  next {c} N (overnight d) g = subst (InTurn z c) (sym (given-back N d)) (itself N)
 
-  along : {c : Cluster} → Now n some c → (es : List Event) → Onward c es → InTurn n some c (runTo c es)
+  along : {c : Cluster} → Now z c → (es : List Event) → Onward c es → InTurn z c (runTo c es)
   along N [] h = itself N
   along N (e ∷ es) h = let t = next N e (h .0) in then t (along (t .later) es (h .1))
 
-  pub led : {c d : Cluster} → Now n some c → LeadsTo c d → InTurn n some c d
-  led {c} N l = subst (InTurn n some c) (l .ends) (along N (l .events) (l .onward))
+  pub led : {c d : Cluster} → Now z c → LeadsTo c d → InTurn z c d
+  led {c} N l = subst (InTurn z c) (l .ends) (along N (l .events) (l .onward))
 
 -- ---- from a fresh cluster
 
-pub some-of : {n : ℕ} → fewestServers ≤ n → 0 < n
-some-of two = omega arith
-
-pub reached : {c : Cluster} (f : FromFresh c) → Now (f .count) (some-of (f .fewest)) c
-reached f = led (begun (f .count) (some-of (f .fewest)) (f .fewest) (f .most)) (f .leads) .later
+pub reached : {c : Cluster} (f : FromFresh c) → Now (f .opening) c
+reached f = led (begun (f .opening)) (f .leads) .later
 
 -- what is saved of such a record loads, and gives it back
 pub saved-and-loaded : (c d : Cluster) → FromFresh c → loadOf d (saveOf c) ≡ loaded c
@@ -82,4 +78,4 @@ pub leads-next : {c : Cluster} (e : Event) → GoesOn c e → LeadsTo c (happens
 leads-next e g = record { events = e ∷ []; onward = (g, tt); ends = refl }
 
 pub fresh-on : {c d : Cluster} → FromFresh c → LeadsTo c d → FromFresh d
-fresh-on f l = record { count = f .count; fewest = f .fewest; most = f .most; leads = leads-on (f .leads) l }
+fresh-on f l = record { opening = f .opening; leads = leads-on (f .leads) l }

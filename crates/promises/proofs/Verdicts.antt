@@ -34,7 +34,7 @@ use Rattle.promises.specs.Texts.{a-line, Begins, NoneBegins, FreshOf}
 use Rattle.promises.specs.Longest.{recordsOf, longestCovered}
 use Rattle.promises.specs.Honest.{Made}
 use Rattle.promises.specs.Verdicts.{SinceStart, runSince, VerdictPromised}
-use Rattle.promises.proofs.Starts.{start-of}
+use Rattle.promises.proofs.Starts.{start-of, opening-of}
 use Rattle.promises.proofs.Texts.{texts-are-runs}
 use Rattle.promises.proofs.Longest.{longest-beginning}
 use Rattle.promises.proofs.Honest.{honest-phone}
@@ -50,16 +50,16 @@ done-is (A.Entry n term time) e = not-both false e refl
 done-is (A.Value value time) e = not-both false e refl
 done-is (A.Refused r) e = not-both false e refl
 
-start-begins : (c : Cluster) (l : List ℕ) (n : ℕ) → Begins c l n → begins (readStep l) (answerTo c l .answer) ≡ true
-start-begins c l n b = rw (b .reads, b .done)
+start-begins : (c : Cluster) (l : List ℕ) (n f : ℕ) → Begins c l n f → begins (readStep l) (answerTo c l .answer) ≡ true
+start-begins c l n f b = rw (b .reads, b .done)
 
-begins-start : (c : Cluster) (l : List ℕ) → begins (readStep l) (answerTo c l .answer) ≡ true → (n : ℕ) × Begins c l n
+begins-start : (c : Cluster) (l : List ℕ) → begins (readStep l) (answerTo c l .answer) ≡ true → (n : ℕ) × (f : ℕ) × Begins c l n f
 begins-start c l h = go (readStep l) refl h
   where
-    go : (r : ReadStep) → readStep l ≡ r → begins r (answerTo c l .answer) ≡ true → (n : ℕ) × Begins c l n
+    go : (r : ReadStep) → readStep l ≡ r → begins r (answerTo c l .answer) ≡ true → (n : ℕ) × (f : ℕ) × Begins c l n f
     go (R.Step s) e h =
         let p = start-of s (and-left (isStart s) (isDone (answerTo c l .answer)) h) in
-        (p .0, record { reads = e ∙ ap R.Step (p .1); done = done-is (answerTo c l .answer) (and-right (isStart s) _ h) })
+        (p .0, p .1, record { reads = e ∙ ap R.Step (p .2); done = done-is (answerTo c l .answer) (and-right (isStart s) _ h) })
     go R.NoFrame e h = not-both false h refl
 
 -- none of some lines does
@@ -68,12 +68,12 @@ none-starts c [] h = tt
 none-starts c (l ∷ ls) h = (go (begins (readStep l) (answerTo c l .answer)) refl, none-starts (answerTo c l .cluster) ls (h .1))
   where
     go : (b : Bool) → begins (readStep l) (answerTo c l .answer) ≡ b → begins (readStep l) (answerTo c l .answer) ≡ false
-    go true e = let p = begins-start c l e in absurd (h .0 (p .0) (p .1))
+    go true e = let p = begins-start c l e in absurd (h .0 (p .0) (p .1) (p .2))
     go false e = e
 
 none-begins : (c : Cluster) (ls : List (List ℕ)) → NoneStarts c ls → NoneBegins c (map a-line ls)
 none-begins c [] h = tt
-none-begins c (l ∷ ls) h = (λ n b. not-both (begins (readStep l) (answerTo c l .answer)) (start-begins c l n b) (h .0), none-begins (answerTo c l .cluster) ls (h .1))
+none-begins c (l ∷ ls) h = (λ n f b. not-both (begins (readStep l) (answerTo c l .answer)) (start-begins c l n f b) (h .0), none-begins (answerTo c l .cluster) ls (h .1))
 
 -- ---- the last start
 
@@ -84,7 +84,7 @@ last-start t =
       start = t .start;
       after = t .after;
       split = t .split;
-      succeeds = start-begins (recordAfter zeroCluster (t .before)) (t .start) (t .count) (t .begins);
+      succeeds = start-begins (recordAfter zeroCluster (t .before)) (t .start) (t .count) (t .followers) (t .begins);
       none-after = none-starts _ (t .after) (t .none-after);
     }
 
@@ -99,7 +99,8 @@ some-run text (inl s) =
       after = s .after;
       split = s .split;
       count = p .0;
-      begins = p .1;
+      followers = p .1;
+      begins = p .2;
       none-after = none-begins _ (s .after) (s .none-after);
     })
 
@@ -110,10 +111,10 @@ module _ {steps : List ℕ} (t : SinceStart steps) where
   opened = answerTo (recordAfter zeroCluster (t .before)) (t .start) .cluster
 
   abbrev fresh : Cluster
-  fresh = freshCluster (t .count)
+  fresh = freshCluster (t .count) (t .followers)
 
-  begun : FreshOf opened (t .count)
-  begun = texts-are-runs .begun (recordAfter zeroCluster (t .before)) (t .start) (t .count) (t .begins)
+  begun : FreshOf opened (t .count) (t .followers)
+  begun = texts-are-runs .begun (recordAfter zeroCluster (t .before)) (t .start) (t .count) (t .followers) (t .begins)
 
   onward : Onward fresh (runSince t)
   onward = subst (λ (c : Cluster). Onward c (runSince t)) (begun .is) (texts-are-runs .goes-on opened (map a-line (t .after)) (t .none-after) .onward)
@@ -131,8 +132,8 @@ module _ {steps : List ℕ} (t : SinceStart steps) where
     honest made few =
         checked
         ∙ ap Judged
-        (honest-phone (t .count) (runSince t) rs (columnsOf (longestCovered fresh (runSince t))) (begun .fewest) (begun .most) onward made few
-        (longest-beginning (t .count) (runSince t) (begun .fewest) (begun .most) onward .own-log))
+        (honest-phone (opening-of begun) (runSince t) rs (columnsOf (longestCovered fresh (runSince t))) onward made few
+        (longest-beginning (opening-of begun) (runSince t) onward .own-log))
 
 pub verdicts : VerdictPromised
 verdicts steps phones =

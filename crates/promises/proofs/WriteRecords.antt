@@ -29,6 +29,7 @@ use Rattle.steps.specs.declared.Outcome.{Outcome}
 use Rattle.singles.specs.Appends.{newEntry, stampedOf}
 use Rattle.singles.specs.Writes.{writeFrom, writeDone}
 use Rattle.reads.specs.MajorityRead.{covered}
+use Rattle.wholes.specs.Starts.{Opening, freshOf}
 use Rattle.rules.specs.Rules.{delivered, rowOf, stepOf}
 use Rattle.rules.proofs.Appends.{stampFrom, live-more}
 use Rattle.rules.proofs.Outcomes.{DoneWith, answered-done}
@@ -49,22 +50,22 @@ unfolding sameWrite
 written-same session w = and-both _ _ (eq-eqb (w .key) (w .key) refl) (and-both _ _ (eq-eqb (w .value) (w .value) refl) (sameTime-refl (w .time)))
 
 -- at some moment up to c, some server had it at its position
-pub record Stood (n : ℕ) (some : 0 < n) (c : Cluster) (w : AnsweredWrite) : Type 0 where
+pub record Stood (z : Opening) (c : Cluster) (w : AnsweredWrite) : Type 0 where
   pub moment : Cluster
-  pub turn : InTurn n some moment c
+  pub turn : InTurn z moment c
   pub server : ℕ
-  pub counted : server < n
+  pub counted : server < z .servers
   pub long : w .position ≤ lengthOf (serverAt moment server .log)
   pub entry : entryOf moment server (w .position) ≡ entryFor w
   pub key : w .key ≤ highestKey
 
-pub stood-on : {n : ℕ} {some : 0 < n} {c d : Cluster} {w : AnsweredWrite} → InTurn n some c d → Stood n some c w → Stood n some d w
+pub stood-on : {z : Opening} {c d : Cluster} {w : AnsweredWrite} → InTurn z c d → Stood z c w → Stood z d w
 stood-on t s =
     record { moment = s .moment; turn = then (s .turn) t; server = s .server; counted = s .counted; long = s .long; entry = s .entry; key = s .key }
 
 -- ---- a write that is answered
 
-module _ {n : ℕ} {some : 0 < n} {c : Cluster} (N : Now n some c) (a : ℕ) (client : Time) (w : AnsweredWrite)
+module _ {z : Opening} {c : Cluster} (N : Now z c) (a : ℕ) (client : Time) (w : AnsweredWrite)
     (told : stepOf c (Writes a (w .key) (w .value) client) .answer ≡ A.Entry (w .position) (w .term) (w .time)) where
   abbrev s : Server
   s = serverAt c a
@@ -76,7 +77,7 @@ module _ {n : ℕ} {some : 0 < n} {c : Cluster} (N : Now n some c) (a : ℕ) (cl
   done : DoneWith c (Writes a (w .key) (w .value) client) (A.Entry (w .position) (w .term) (w .time))
   done = answered-done c (Writes a (w .key) (w .value) client) told refl
 
-  below : a < n
+  below : a < z .servers
   unfolding rowOf
   below = omega (arith, ltb-true a (serverCount c) (done .clear .0), all-counted N)
 
@@ -105,8 +106,8 @@ module _ {n : ℕ} {some : 0 < n} {c : Cluster} (N : Now n some c) (a : ℕ) (cl
       let m : stampFrom s (writeFrom s client) ≡ w .time = cc (done .answers) in
       λ i. record { term = t i; key = w .key; value = w .value; time = m i }
 
-  pub wrote : InTurn n some c (stepOf c (Writes a (w .key) (w .value) client) .cluster)
-      → Stood n some (stepOf c (Writes a (w .key) (w .value) client) .cluster) w
+  pub wrote : InTurn z c (stepOf c (Writes a (w .key) (w .value) client) .cluster)
+      → Stood z (stepOf c (Writes a (w .key) (w .value) client) .cluster) w
   unfolding rowOf
   wrote t =
       record {
@@ -121,12 +122,12 @@ module _ {n : ℕ} {some : 0 < n} {c : Cluster} (N : Now n some c) (a : ℕ) (cl
 
 -- ---- an acknowledgement
 
-module _ {n : ℕ} {some : 0 < n} {c : Cluster} (N : Now n some c) {es : List Entry}
-    (begins : (i : ℕ) → i < n → Beginning (covered (serverAt c i)) es) (q : ℕ) (w : AnsweredWrite) (S : Stood n some c w)
+module _ {z : Opening} {c : Cluster} (N : Now z c) {es : List Entry}
+    (begins : (i : ℕ) → i < z .servers → Beginning (covered (serverAt c i)) es) (q : ℕ) (w : AnsweredWrite) (S : Stood z c w)
     {m term : ℕ} {time : Time} (told : stepOf c (Acknowledged q 0 (w .position) (w .term)) .answer ≡ A.Entry m term time) where
   -- what it says of q: it has an entry of that term there, and its commit point has reached it
   record Reached : Type 0 where
-    below : q < n
+    below : q < z .servers
     from-one : 1 ≤ w .position
     term-is : entryOf c q (w .position) .term ≡ w .term
     reached : w .position ≤ serverAt c q .head .commit

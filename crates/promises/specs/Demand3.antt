@@ -6,7 +6,6 @@ use mathlib.Core.Bool.{Bool, true, false}
 use mathlib.Core.List.{List}
 use Prim.Native.Nat.{ℕ, _≤_, _<_}
 use lib.ListN.{length, take}
-use Rattle.base.specs.Numbers.{count}
 use Rattle.clock.specs.declared.Time.{Time}
 use Rattle.clock.specs.Times.{isBefore}
 use Rattle.log.specs.declared.Entry.{Entry}
@@ -14,7 +13,7 @@ use Rattle.log.specs.Entries.{entryAt, isBeginning}
 use Rattle.log.specs.Logs.{live}
 use Rattle.cluster.specs.declared.Cluster.{Cluster}
 use Rattle.cluster.specs.Servers.{serverAt}
-use Rattle.cluster.specs.Sets.{mostOf}
+use Rattle.cluster.specs.Sets.{voters, votersWith, mostOf}
 use Rattle.steps.specs.declared.Step.{Step}
 use Rattle.steps.specs.declared.Step.the-variants.{MajorityRead}
 use Rattle.steps.specs.declared.Answer.the-variants.{Value, Refused}
@@ -49,8 +48,8 @@ pub record Shows (c : Cluster) (q : ℕ) (e : Entry) (k v : ℕ) : Type 0 where
 pub record Kept (x y : Cluster) (s k : ℕ) : Type 0 where
   -- they are k entries
   pub whole : length (firstOf x s k) ≡ k
-  -- a majority of servers hold those same entries
-  pub majority : mostOf (y .count) (count (y .count) (holds y (firstOf x s k))) ≡ true
+  -- a majority of servers hold those same entries: of those that vote
+  pub majority : mostOf (voters (y .count) (y .followers)) (votersWith (y .count) (y .followers) (holds y (firstOf x s k))) ≡ true
   -- so does every primary whose term is not below the one that s had in x
   pub primaries : (i : ℕ) → i < y .count → serverAt y i .head .primary ≡ true → serverAt x s .head .term ≤ serverAt y i .head .term
       → holds y (firstOf x s k) i ≡ true
@@ -65,8 +64,9 @@ pub record Kept (x y : Cluster) (s k : ℕ) : Type 0 where
 
 -- c is the record at some moment, d one onward from there, which may be c itself
 pub record Demand3Promise (c d : Cluster) : Type 0 where
-  -- there are still as many servers
+  -- there are still as many servers, and the same ones vote
   pub counted : d .count ≡ c .count
+  pub follow : d .followers ≡ c .followers
   -- whatever a server's commit point covers at the moment is kept
   pub kept : (s k : ℕ) → s < c .count → 1 ≤ k → k ≤ serverAt c s .head .commit → Kept c d s k
   -- refusal 9 is given to no step

@@ -9,7 +9,7 @@ use lib.ListN.{length}
 use Rattle.clock.specs.declared.Time.{Time}
 use Rattle.clock.specs.Times.{isBefore}
 use Rattle.cluster.specs.declared.Cluster.{Cluster}
-use Rattle.cluster.specs.Servers.{fewestServers, mostServers, freshCluster}
+use Rattle.wholes.specs.Starts.{Opening, freshOf}
 use Rattle.steps.specs.declared.Step.the-variants.{Writes, MajorityRead, Acknowledged}
 use Rattle.steps.specs.declared.Answer.the-variants as A
 use Rattle.rules.specs.Rules.{stepOf}
@@ -73,5 +73,5 @@ pub data Made : Cluster → List Event → List AnsweredWrite → List PhoneReco
 
 abbrev pub HonestPromised : Type 0
 HonestPromised =
-    (n : ℕ) (run : List Event) (rs : List PhoneRecord) (g : Committed) → fewestServers ≤ n → n ≤ mostServers → Onward (freshCluster n) run
-    → Made (freshCluster n) run [] [] rs → length rs ≤ mostRecords → HoldsAll (longestCovered (freshCluster n) run) g → checkOf rs g ≡ Accepted
+    (z : Opening) (run : List Event) (rs : List PhoneRecord) (g : Committed) → Onward (freshOf z) run
+    → Made (freshOf z) run [] [] rs → length rs ≤ mostRecords → HoldsAll (longestCovered (freshOf z) run) g → checkOf rs g ≡ Accepted

@@ -10,7 +10,8 @@ use Rattle.clock.specs.Times.{zeroTime}
 use Rattle.log.specs.declared.Entry.{Entry}
 use Rattle.log.specs.Entries.{entryAt, isBeginning}
 use Rattle.cluster.specs.declared.Cluster.{Cluster}
-use Rattle.cluster.specs.Servers.{fewestServers, mostServers, serverAt, freshCluster}
+use Rattle.cluster.specs.Servers.{serverAt}
+use Rattle.wholes.specs.Starts.{Opening, freshOf}
 use Rattle.reads.specs.MajorityRead.{covered}
 use Rattle.histories.specs.Committed.{Committed, entriesOf, couldHold}
 use Rattle.histories.specs.Longest.{longestOf, columnsOf}
@@ -51,4 +52,4 @@ pub record LongestPromise (c : Cluster) (run : List Event) : Type 0 where
 
 abbrev pub LongestPromised : Type 0
 LongestPromised =
-    (n : ℕ) (run : List Event) → fewestServers ≤ n → n ≤ mostServers → Onward (freshCluster n) run → LongestPromise (freshCluster n) run
+    (z : Opening) (run : List Event) → Onward (freshOf z) run → LongestPromise (freshOf z) run

@@ -4,12 +4,11 @@ use mathlib.Core.Path.{_≡_}
 use mathlib.Core.Logic.{_≢_}
 use mathlib.Core.Bool.{true}
 use mathlib.Core.List.{List, [], _∷_}
-use Prim.Native.Nat.{ℕ, _≤_}
 use Rattle.cluster.specs.declared.Cluster.{Cluster}
-use Rattle.cluster.specs.Servers.{fewestServers, mostServers, freshCluster}
 use Rattle.steps.specs.declared.Step.{Step}
 use Rattle.steps.specs.declared.Answer.the-variants.{Done}
 use Rattle.steps.specs.Ranges.{FitsStep}
+use Rattle.wholes.specs.Starts.{Opening, freshOf}
 use Rattle.rules.specs.Rules.{isStart, stepOf}
 use Rattle.saved.specs.Saved.{saveOf}
 use Rattle.loads.specs.Loads.{loadOf}
@@ -44,9 +43,7 @@ pub record LeadsTo (c d : Cluster) : Type 0 where
   pub onward : Onward c events
   pub ends : runTo c events ≡ d
 
--- c comes from a fresh cluster of two to seven servers
+-- c comes from a fresh cluster of two to seven servers, with any followers that a start allows
 pub record FromFresh (c : Cluster) : Type 0 where
-  pub count : ℕ
-  pub fewest : fewestServers ≤ count
-  pub most : count ≤ mostServers
-  pub leads : LeadsTo (freshCluster count) c
+  pub opening : Opening
+  pub leads : LeadsTo (freshOf opening) c

@@ -27,7 +27,8 @@ pub record SinceStart (text : List ℕ) : Type 0 where
   pub after : List (List ℕ)
   pub split : lines text ≡ before ++ (start ∷ after)
   pub count : ℕ
-  pub begins : Begins (recordAfter zeroCluster before) start count
+  pub followers : ℕ
+  pub begins : Begins (recordAfter zeroCluster before) start count followers
   pub none-after : NoneBegins (answerTo (recordAfter zeroCluster before) start .cluster) (map a-line after)
 
 -- the run since then
@@ -44,9 +45,9 @@ pub record VerdictPromise (steps phones : List ℕ) : Type 0 where
   pub no-start : (rs : List PhoneRecord) → Reads (lines phones) rs → NoneBegins zeroCluster (map a-line (lines steps)) → verdictOn steps phones ≡ NoStart
   -- then the records are checked against the longest beginning that was covered since the last start
   pub checked : (t : SinceStart steps) (rs : List PhoneRecord) → Reads (lines phones) rs
-      → verdictOn steps phones ≡ Judged (checkOf rs (columnsOf (longestCovered (freshCluster (t .count)) (runSince t))))
+      → verdictOn steps phones ≡ Judged (checkOf rs (columnsOf (longestCovered (freshCluster (t .count) (t .followers)) (runSince t))))
   -- and those that are made along that run, 256 at most, are accepted
-  pub honest : (t : SinceStart steps) (rs : List PhoneRecord) → Reads (lines phones) rs → Made (freshCluster (t .count)) (runSince t) [] [] rs
+  pub honest : (t : SinceStart steps) (rs : List PhoneRecord) → Reads (lines phones) rs → Made (freshCluster (t .count) (t .followers)) (runSince t) [] [] rs
       → length rs ≤ mostRecords → verdictOn steps phones ≡ Judged Accepted
 
 -- for any two texts, however mangled

@@ -44,7 +44,7 @@ fn saves_to(c: Cluster, text: &[u8]) -> bool {
 
 // Every text is loaded into this record, so that a refusal can be seen to give it back: two servers after a start.
 fn given() -> Cluster {
-    let o = rules::step(cluster::zero_cluster(), Step::Start(2));
+    let o = rules::step(cluster::zero_cluster(), Step::Start(2, 0));
     o.cluster
 }
 

@@ -73,7 +73,7 @@ apart-does c a b s e = go (ltb a (serverCount c)) (ltb b (serverCount c)) (eqb a
 
 place-does : (c : Cluster) (s : Step) → carriedOut c (placeOf (serverCount c) s) ≡ coreOf c s
 unfolding carriedOut placeOf oneOf
-place-does c (S.Start n) = refl
+place-does c (S.Start n f) = refl
 place-does c (S.Elect a m) = refl
 place-does c (S.StepDown a) = alone-does c a (S.StepDown a) (decided-sends _ _ (downRules (serverAt c a .head)) refl) ∙ core-down c a
 place-does c (S.Hears a b) = apart-does c a b (S.Hears a b) refl ∙ core-hears c a b
@@ -133,7 +133,7 @@ apart-names size a b s = go (ltb a size) (ltb b size) (eqb a b) refl refl
 
 place-names : (size : ℕ) (s : Step) → Names size (placeOf size s)
 unfolding placeOf
-place-names size (S.Start n) = tt
+place-names size (S.Start n f) = tt
 place-names size (S.Elect a m) = tt
 place-names size (S.StepDown a) = alone-names size a (S.StepDown a)
 place-names size (S.Hears a b) = apart-names size a b (S.Hears a b)

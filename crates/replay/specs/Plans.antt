@@ -27,7 +27,7 @@ planApart size a b s =
     cond (ltb a size) (cond (ltb b size) (cond (eqb a b) (Refuse OutOfRange) (Server a b s)) (Refuse OutOfRange)) (Refuse OutOfRange)
 
 unfoldable pub placeOf : ℕ → Step → Plan
-placeOf size (S.Start n) = Record (S.Start n)
+placeOf size (S.Start n f) = Record (S.Start n f)
 placeOf size (S.Elect a m) = Record (S.Elect a m)
 placeOf size (S.StepDown a) = planAlone size a (S.StepDown a)
 placeOf size (S.Hears a b) = planApart size a b (S.Hears a b)

@@ -169,7 +169,7 @@ fn place(size: usize, s: Step) -> Plan
     ensures { λ r. ⌜ r ≡ placeOf size s ⌝ }
 {
     match s {
-        Step::Start(_) => Plan::Record(s),
+        Step::Start(_, _) => Plan::Record(s),
         Step::Elect(_, _) => Plan::Record(s),
         Step::StepDown(a) => plan_alone(size, a as usize, s),
         Step::Hears(a, b) => plan_apart(size, a as usize, b as usize, s),

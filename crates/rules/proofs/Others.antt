@@ -1,4 +1,4 @@
--- Only the servers that a step names change, and in what they change; the server count stays. Assumes nothing.
+-- Only the servers that a step names change, and in what they change; the server count and the followers stay. Assumes nothing.
 use mathlib.Core.Path.{_≡_, refl, ap, sym, _∙_, subst}
 use mathlib.Core.Bool.{Bool, true, false, cond, _||_}
 use mathlib.Core.List.{List}
@@ -62,7 +62,7 @@ module _ (n w i : ℕ) (s : Server) where
 
 -- a server put back as it is
 pub put-same : (c : Cluster) (a : ℕ) → withServer c a (serverAt c a) ≡ c
-put-same c a = λ i. record { count = c .count; servers = set-getD (c .servers) a pastServer i }
+put-same c a = λ i. record { count = c .count; followers = c .followers; servers = set-getD (c .servers) a pastServer i }
 
 -- what holds of the server that is put there and of those that were there holds of all; where there is no such place nothing changes
 pub put-either : (P : Server → Type 0) (c : Cluster) (a : ℕ) (s : Server) (i : ℕ) → (i ≡ a → P s) → P (serverAt c i) → P (serverAt (withServer c a s) i)
@@ -79,7 +79,7 @@ put-either P c a s i new old = by-cases (ℕ-discrete i a) (λ e. ⊎-elim (insi
 
 -- every server changed by its number
 abbrev pub changedBy : (ℕ → Server → Server) → Cluster → Cluster
-changedBy f c = record { count = c .count; servers = each f (c .servers) }
+changedBy f c = record { count = c .count; followers = c .followers; servers = each f (c .servers) }
 
 -- what holds of what the change makes of a server, and of the server, holds afterwards: past the servers nothing changes
 pub changed-either : (P : Server → Type 0) (f : ℕ → Server → Server) (c : Cluster) (i : ℕ) → P (f i (serverAt c i)) → P (serverAt c i)
@@ -109,10 +109,14 @@ pub delivered-others : (c : Cluster) (b : ℕ) (r : Report) (i : ℕ) → i ≢ 
 unfolding delivered
 delivered-others c b r i ne = replaced-others c b _ i ne
 
-pub delivered-count : (c : Cluster) (x : Sends) → delivered c x .count ≡ c .count
+-- as many servers, and the same followers
+abbrev pub SameSize : Cluster → Cluster → Type 0
+SameSize c d = (d .count ≡ c .count) × (d .followers ≡ c .followers)
+
+pub delivered-size : (c : Cluster) (x : Sends) → SameSize c (delivered c x)
 unfolding delivered
-delivered-count c Nothing = refl
-delivered-count c (To b r) = refl
+delivered-size c Nothing = (refl, refl)
+delivered-size c (To b r) = (refl, refl)
 
 -- t is what s was
 abbrev Same : Server → Server → Type 0
@@ -145,7 +149,7 @@ forwarded-others c a s i e = go (goesNoFurther (serverAt c a)) refl
 
 done-others : (c : Cluster) (s : Step) (i : ℕ) → touches c s i ≡ false → serverAt (doneOf c s .cluster) i ≡ serverAt c i
 unfolding rowOf delivered
-done-others c (Start n) i e = not-both true refl e
+done-others c (Start n f) i e = not-both true refl e
 done-others c (Elect a m) i e = changed-by Same (λ s. refl) (votedOf a m (newTerm c a)) c i (voted-outside a m (newTerm c a) i (serverAt c i) e)
 done-others c (StepDown a) i e = replaced-others c a _ i (eqb-false i a e)
 done-others c (Hears a b) i e = replaced-others c a _ i (eqb-false i a e)
@@ -167,28 +171,28 @@ done-others c ClocksAgree i e =
 pub others-unchanged : (c : Cluster) (s : Step) (i : ℕ) → touches c s i ≡ false → serverAt (stepOf c s .cluster) i ≡ serverAt c i
 others-unchanged c s i e = stepped-by Same (λ x. refl) c s i (done-others c s i e)
 
-done-count : (c : Cluster) (s : Step) → isStart s ≡ false → doneOf c s .cluster .count ≡ c .count
+done-size : (c : Cluster) (s : Step) → isStart s ≡ false → SameSize c (doneOf c s .cluster)
 unfolding rowOf delivered
-done-count c (Start n) e = not-both true refl e
-done-count c (Elect a m) e = refl
-done-count c (StepDown a) e = refl
-done-count c (Hears a b) e = refl
-done-count c (Pulls a b) e = refl
-done-count c (RollsBack a b) e = refl
-done-count c (Writes a key value client) e = refl
-done-count c (Advances a) e = refl
-done-count c (WallClock a) e = refl
-done-count c (Restarts a) e = refl
-done-count c (LocalRead a key asked) e = refl
-done-count c (MajorityRead a key asked) e = refl
-done-count c (Acknowledged a k n term) e = refl
-done-count c ClocksAgree e = refl
-done-count c (WritesNothing a) e = refl
-done-count c (NewestRead a key n term) e = refl
-done-count c (TakesReport a) e = delivered-count (withServer c a _) (forwards (serverAt c a))
+done-size c (Start n f) e = not-both true refl e
+done-size c (Elect a m) e = (refl, refl)
+done-size c (StepDown a) e = (refl, refl)
+done-size c (Hears a b) e = (refl, refl)
+done-size c (Pulls a b) e = (refl, refl)
+done-size c (RollsBack a b) e = (refl, refl)
+done-size c (Writes a key value client) e = (refl, refl)
+done-size c (Advances a) e = (refl, refl)
+done-size c (WallClock a) e = (refl, refl)
+done-size c (Restarts a) e = (refl, refl)
+done-size c (LocalRead a key asked) e = (refl, refl)
+done-size c (MajorityRead a key asked) e = (refl, refl)
+done-size c (Acknowledged a k n term) e = (refl, refl)
+done-size c ClocksAgree e = (refl, refl)
+done-size c (WritesNothing a) e = (refl, refl)
+done-size c (NewestRead a key n term) e = (refl, refl)
+done-size c (TakesReport a) e = delivered-size (withServer c a _) (forwards (serverAt c a))
 
-pub count-unchanged : (c : Cluster) (s : Step) → isStart s ≡ false → stepOf c s .cluster .count ≡ c .count
-count-unchanged c s e = ⊎-elim (λ d. rw (d .is) (done-count c s e)) (λ d. rw (d .is)) (step-cases c s)
+pub size-unchanged : (c : Cluster) (s : Step) → isStart s ≡ false → SameSize c (stepOf c s .cluster)
+size-unchanged c s e = ⊎-elim (λ d. rw (d .is) (done-size c s e)) (λ d. rw (d .is) (refl, refl)) (step-cases c s)
 
 -- ---- what changes where several servers do
 

@@ -64,7 +64,7 @@ isRefused (A.Refused r) = true
 -- what is done answers no refusal
 pub done-not-refused : (c : Cluster) (s : Step) → isRefused (doneOf c s .answer) ≡ false
 unfolding rowOf
-done-not-refused c (Start n) = refl
+done-not-refused c (Start n f) = refl
 done-not-refused c (Elect a m) = refl
 done-not-refused c (StepDown a) = refl
 done-not-refused c (Hears a b) = refl

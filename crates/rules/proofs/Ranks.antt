@@ -44,7 +44,7 @@ foremost n ((b, m) ∷ rs) e (later t k) (among a) = foremost (rankOf m) rs (goe
 -- every kind's rules rise, from refusal 3 on
 rules-rise : (c : Cluster) (s : Step) → rises 3 (rulesOf c s) ≡ true
 unfolding rowOf
-rules-rise c (Start n) = refl
+rules-rise c (Start n f) = refl
 rules-rise c (Elect a m) = refl
 rules-rise c (StepDown a) = refl
 rules-rise c (Hears a b) = refl

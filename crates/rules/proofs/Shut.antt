@@ -16,9 +16,10 @@ use Rattle.log.specs.Order.{entryOk, follows, placeOk, inOrder, restZero, isEmp
 use Rattle.log.specs.Rows.{latestAfter, rowOk, rowsOk}
 use Rattle.cluster.specs.declared.Cluster.{Cluster}
 use Rattle.cluster.specs.Servers.{freshCluster, startedOf, serverAt, votedOf}
-use Rattle.cluster.specs.Sets.{member, isWithin}
+use Rattle.cluster.specs.Sets.{member, isWithin, isApart}
 use Rattle.mail.specs.Order.{isUnused, isUsed, noteOk, notesOk, slotOk, queueOk, sourceOk, mailOk}
-use Rattle.cluster.specs.WellFormed.{numbersOk, countedOk, zeroOk, serverOk, wellFormed}
+use Rattle.cluster.specs.WellFormed.{numbersOk, countedOk, zeroOk, serverOk, sizeOk, wellFormed}
+use Rattle.cluster.proofs.Good.{size-good}
 use Rattle.steps.specs.declared.Answer.{Answer}
 use Rattle.steps.specs.declared.Answer.the-variants as A
 use Rattle.steps.specs.declared.Outcome.{Outcome}
@@ -29,7 +30,7 @@ use Rattle.steps.specs.declared.Telling.{Telling}
 use Rattle.steps.specs.declared.Telling.the-variants as T
 use Rattle.steps.specs.Answers.{tellingOf}
 use Rattle.singles.specs.Appends.{stampedOf}
-use Rattle.wholes.specs.Elects.{notBehind, mayVote, allMayVote}
+use Rattle.wholes.specs.Elects.{notBehind, mayVote, allMayVote, areVoters}
 use Rattle.rules.specs.Rules.{delivered, rowOf, coreOf, stepOf}
 use Rattle.rules.proofs.Outcomes.{isRefused}
 use Rattle.rules.specs.Statements.{Program, Differs, refusesEach, saysOne, leavesAll, echoesLater}
@@ -38,7 +39,7 @@ use Rattle.rules.specs.Statements.{Program, Differs, refusesEach, saysOn
 
 -- the fresh cluster of two, where both elect server 0
 abbrev fresh : Cluster
-fresh = freshCluster 2
+fresh = freshCluster 2 0
 
 abbrev election : Step
 election = Elect 0 3
@@ -65,7 +66,7 @@ record Runs : Type 0 where
   reads-none : stepOf written (reading 6) .answer ≡ A.Value 0 written-at
 
 runs : Runs
-unfolding every count highest eachFrom isBefore sameTime laterOf tickOf sameEntry entryAt latestValue hasRoom appended entryOk follows placeOk inOrder restZero isEmptyLog logOk isUnused isUsed noteOk notesOk slotOk queueOk sourceOk mailOk startedOf votedOf member isWithin numbersOk countedOk zeroOk latestAfter rowOk rowsOk serverOk wellFormed stampedOf notBehind mayVote allMayVote delivered rowOf coreOf stepOf
+unfolding every count highest eachFrom isBefore sameTime laterOf tickOf sameEntry entryAt latestValue hasRoom appended entryOk follows placeOk inOrder restZero isEmptyLog logOk isUnused isUsed noteOk notesOk slotOk queueOk sourceOk mailOk startedOf votedOf member isWithin numbersOk countedOk zeroOk latestAfter rowOk rowsOk serverOk isApart sizeOk wellFormed stampedOf notBehind mayVote allMayVote areVoters delivered rowOf coreOf stepOf
 runs =
     record {
       well-formed = refl;
@@ -133,7 +134,7 @@ leaves-all = echoing-differs leavesAll (λ c s w. refl)
 -- a well-formed record has a count of at least 2
 echoed : (c : Cluster) (s : Step) → wellFormed c ≡ true → echoesLater c s .cluster ≡ c
 unfolding wellFormed
-echoed c s w = rw (ne-eqb (c .count) 0 (λ z. omega (arith, leb-true 2 (c .count) (and-left _ _ w)))) refl
+echoed c s w = rw (ne-eqb (c .count) 0 (λ z. omega (arith, size-good {f = c .followers} (and-left _ _ w) .at-least-two))) refl
 
 pub echoes-later : Differs echoesLater
 echoes-later = echoing-differs echoesLater echoed

@@ -33,7 +33,7 @@ abbrev pub untouchedOf : Server → Stepped
 untouchedOf s = record { server = s; answer = Done; sends = Nothing }
 
 unfoldable pub oneOf : ℕ → Server → Server → Step → Stepped
-oneOf size s t (Start n) = untouchedOf s
+oneOf size s t (Start n f) = untouchedOf s
 oneOf size s t (Elect a m) = untouchedOf s
 oneOf size s t (StepDown a) = stepsDownOf s
 oneOf size s t (Hears a b) = hearsOf s t

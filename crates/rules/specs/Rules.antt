@@ -55,7 +55,7 @@ putBack c a o = record { cluster = delivered (withServer c a (o .server)) (o .se
 
 -- 01's table of steps with 02's, a row a kind: what has to hold, in the order in which it is refused; the record afterwards and the answer
 unfoldable pub rowOf : Cluster → Step → Rules × Outcome
-rowOf c (Start n) = (startRules n, startDone n)
+rowOf c (Start n f) = (startRules n f, startDone n f)
 rowOf c (Elect a m) = (electRules c a m, electDone c a m)
 rowOf c (StepDown a) = (inRange c a ∷ downRules (serverAt c a .head), putBack c a (downDone (serverAt c a)))
 rowOf c (Hears a b) = (bothInRange c a b [], putBack c a (hearsOf (serverAt c a) (serverAt c b)))

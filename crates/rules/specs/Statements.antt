@@ -29,7 +29,7 @@ pub data Why (c : Cluster) (s : Step) : Refusal → Type 0 where
 
 -- the server that it names and the one that it sends a report to, a set's members, every counted server; a step that only asks changes none
 abbrev pub touches : Cluster → Step → ℕ → Bool
-touches c (Start n) i = true
+touches c (Start n f) i = true
 touches c (Elect a m) i = member m i
 touches c (StepDown a) i = eqb i a
 touches c (Hears a b) i = eqb i a

@@ -57,7 +57,7 @@ pub fn one(size: usize, s: Server, t: Server, step: Step) -> Stepped
         Step::WritesNothing(_) => writes_nothing(s),
         Step::NewestRead(_, key, n, term) => newest_read(s, key, n as usize, term),
         Step::TakesReport(_) => takes_report(s),
-        Step::Start(_) => untouched(s),
+        Step::Start(_, _) => untouched(s),
         Step::Elect(_, _) => untouched(s),
         Step::Advances(_) => untouched(s),
         Step::ClocksAgree => untouched(s),
@@ -131,7 +131,7 @@ pub fn core(c: Cluster, step: Step) -> Outcome
     ensures { λ r. ⌜ r ≡ coreOf c step ⌝ }
 {
     match step {
-        Step::Start(n) => starts(c, n as usize),
+        Step::Start(n, followers) => starts(c, n as usize, followers),
         Step::Elect(a, set) => elects(c, a as usize, set),
         Step::StepDown(a) => single(c, a as usize, step),
         Step::Hears(a, b) => pair(c, a as usize, b as usize, step),
@@ -155,7 +155,7 @@ pub fn is_start(step: Step) -> bool
     ensures { λ r. ⌜ r ≡ isStart step ⌝ }
 {
     match step {
-        Step::Start(_) => true,
+        Step::Start(_, _) => true,
         _ => false,
     }
 }

@@ -18,15 +18,16 @@ use Rattle.cluster.specs.declared.Server.{Server}
 use Rattle.cluster.specs.declared.Cluster.{Cluster}
 use Rattle.cluster.specs.Ranges.{Fits}
 use Rattle.cluster.specs.Servers.{serverCount, serverAt, votedOf, electedAll}
-use Rattle.cluster.specs.Sets.{member, bits, mostOf}
+use Rattle.cluster.specs.Sets.{member, bits, votes, voters, mostOf}
 use Rattle.cluster.proofs.Changed.{changed-at}
-use Rattle.cluster.proofs.Masks.{within-member, within-count}
+use Rattle.cluster.proofs.Masks.{within-member, voters-members}
 use Rattle.steps.specs.declared.Sends.the-variants.{Nothing}
 use Rattle.steps.specs.declared.Stepped.{Stepped}
 use Rattle.steps.specs.declared.Answer.the-variants.{Reached}
 use Rattle.steps.specs.declared.Step.the-variants.{Elect, Advances}
 use Rattle.wholes.specs.Elects.{notBehind, mayVote, allMayVote, newTerm}
-use Rattle.counts.specs.Advances.{backs, backers, passes, highestPassing, committedOf}
+use Rattle.wholes.proofs.Voting.{taking}
+use Rattle.counts.specs.Advances.{backs, backers, passes, highestPassing, reachedBy, committedOf}
 use Rattle.rules.specs.Rules.{delivered, rowOf}
 use Rattle.safety.specs.Quorum.{Quorums, Majority}
 use Rattle.safety.specs.Cluster.{ServerSeen, NotBehind}
@@ -100,13 +101,13 @@ backing c a n i some e = go (or-cases (eqb i a) _ e)
         })
 
 -- a position that passes, as facts
-record Passing (size : ℕ) (s : Server) (a n : ℕ) : Type 0 where
+record Passing (size f : ℕ) (s : Server) (a n : ℕ) : Type 0 where
   above : 1 ≤ n
   within : n ≤ lengthOf (s .log)
   current : entryAt (live (s .log)) n .term ≡ s .head .term
-  enough : mostOf size (backers size s a n) ≡ true
+  enough : mostOf (voters size f) (backers size f s a n) ≡ true
 
-passing : {size : ℕ} {s : Server} {a n : ℕ} → passes size s a n ≡ true → Passing size s a n
+passing : {size f : ℕ} {s : Server} {a n : ℕ} → passes size f s a n ≡ true → Passing size f s a n
 unfolding passes
 passing {s = s} {n = n} e =
     let r = and-right (ltb (s .head .commit) n) _ e in
@@ -120,7 +121,7 @@ passing {s = s} {n = n} e =
 
 -- ---- the steps
 
-module _ {𝓠 : Quorums} (c : Cluster) (f : Fits c) (most : (P : ℕ → Type 0) → Majority (serverCount c) P → 𝓠 .Most P) where
+module _ {𝓠 : Quorums} (c : Cluster) (f : Fits c) (most : (P : ℕ → Type 0) → Majority (serverCount c) (c .followers) P → 𝓠 .Most P) where
   pub sees-elect : (a m : ℕ) → m < 2 ^ bits → Sees 𝓠 c (Elect a m)
   unfolding rowOf allMayVote mayVote
   sees-elect a m fits h =
@@ -128,8 +129,8 @@ module _ {𝓠 : Quorums} (c : Cluster) (f : Fits c) (most : (P : ℕ → Type 0
       (record {
         quorum = most _ (record {
           members = member m;
-          enough = rw (← within-count m (serverCount c) fits (omega arith) (h .1 .0)) (h .1 .1 .0);
-          hold = λ i l e. e;
+          enough = rw (← voters-members m (c .followers) (serverCount c) fits (omega arith) (taking (h .0) .within) (taking (h .0) .apart)) (h .1 .0);
+          hold = λ i l e. and-right (votes (c .followers) i) _ e;
         });
         low = λ i e. leb-true _ _ (and-left _ _ (may i e));
         ahead = λ i e. not-behind (serverAt c a) (serverAt c i) (and-right (leb (serverAt c i .head .term) (serverAt c a .head .term)) _ (may i e));
@@ -143,10 +144,10 @@ module _ {𝓠 : Quorums} (c : Cluster) (f : Fits c) (most : (P : ℕ → Type 0
       risen = omega arith
 
       below : (i : ℕ) → member m i ≡ true → i < serverCount c
-      below i e = within-member m (serverCount c) i fits (h .1 .0) e
+      below i e = within-member m (serverCount c) i fits (taking (h .0) .within) e
 
       may : (i : ℕ) → member m i ≡ true → mayVote (serverAt c a) (serverAt c i) ≡ true
-      may i e = of-member m i _ e (every-at _ (serverCount c) i (h .1 .1 .1 .1 .0) (below i e))
+      may i e = of-member m i _ e (every-at _ (serverCount c) i (h .1 .1 .1 .0) (below i e))
 
       changed : (i : ℕ) → member m i ≡ true → serverAt (electedAll c a m (newTerm c a)) i ≡ votedOf a m (newTerm c a) i (serverAt c i)
       changed i e = changed-at (votedOf a m (newTerm c a)) c i (omega (arith, below i e, f .slots))
@@ -155,15 +156,15 @@ module _ {𝓠 : Quorums} (c : Cluster) (f : Fits c) (most : (P : ℕ → Type 0
   unfolding rowOf highestPassing delivered
   sees-advance a h =
       let s = serverAt c a in
-      let n = highestPassing (serverCount c) s a in
-      let p = passing (highest-passes (passes (serverCount c) s a) (lengthOf (s .log)) (leb-true 1 n (h .1 .1 .0))) in
+      let n = reachedBy c a in
+      let p = passing {f = c .followers} (highest-passes (passes (serverCount c) (c .followers) s a) (lengthOf (s .log)) (leb-true 1 n (h .1 .1 .0))) in
       let o : Stepped = record { server = committedOf s n; answer = Reached n; sends = Nothing } in
       let q = here c f a (h .0) o in
       T.passes a n
       (record {
         within = p .within;
         current = p .current;
-        quorum = most _ (record { members = backs s a n; enough = p .enough; hold = λ i l e. backing c a n i (p .above) e });
+        quorum = most _ (record { members = backs s a n; enough = p .enough; hold = λ i l e. backing c a n i (p .above) (and-right (votes (c .followers) i) _ e) });
         keeps = record { len = ap (λ (x : ServerSeen). x .len) q; log = ap (λ (x : ServerSeen). x .log) q };
         term = ap (λ (x : ServerSeen). x .term) q;
         role = ap (λ (x : ServerSeen). x .primary) q;

@@ -76,50 +76,50 @@ module _ (c : Cluster) (f : Fits c) (a : ℕ) (l : ltb a (serverCount c) ≡ tru
 
 -- a change of all servers that the view does not show at i
 pub changed-view : (g : ℕ → Server → Server) (c : Cluster) (i : ℕ) → seenServer (g i (serverAt c i)) ≡ view c i
-    → view (record { count = c .count; servers = each g (c .servers) }) i ≡ view c i
+    → view (record { count = c .count; followers = c .followers; servers = each g (c .servers) }) i ≡ view c i
 changed-view g c i e = changed-either (λ s. seenServer s ≡ view c i) g c i e refl
 
 -- ---- the fresh cluster
 
 -- each server of it is fresh, zero or none
-pub fresh-each : (P : Server → Type 0) → P freshServer → P zeroServer → P pastServer → (n i : ℕ) → P (serverAt (freshCluster n) i)
-fresh-each P x y z n i = ⊎-elim one past (lt-or-le i mostServers)
+pub fresh-each : (P : Server → Type 0) → P freshServer → P zeroServer → P pastServer → (n f i : ℕ) → P (serverAt (freshCluster n f) i)
+fresh-each P x y z n f i = ⊎-elim one past (lt-or-le i mostServers)
   where
-    one : i < mostServers → P (serverAt (freshCluster n) i)
-    one h = ⊎-elim (λ l. subst P (sym (fresh-at n i l h)) x) (λ l. subst P (sym (fresh-past n i l h)) y) (lt-or-le i n)
+    one : i < mostServers → P (serverAt (freshCluster n f) i)
+    one h = ⊎-elim (λ l. subst P (sym (fresh-at n f i l h)) x) (λ l. subst P (sym (fresh-past n f i l h)) y) (lt-or-le i n)
 
-    past : mostServers ≤ i → P (serverAt (freshCluster n) i)
+    past : mostServers ≤ i → P (serverAt (freshCluster n f) i)
     past h =
-        subst P (sym (List·getD-eq-default (freshCluster n .servers) pastServer (omega (arith, length-eachFrom (startedOf n) 0 (zeroCluster .servers))))) z
+        subst P (sym (List·getD-eq-default (freshCluster n f .servers) pastServer (omega (arith, length-eachFrom (startedOf n) 0 (zeroCluster .servers))))) z
 
 -- so it looks like none
-fresh-view : (n i : ℕ) → view (freshCluster n) i ≡ seenServer pastServer
-fresh-view n i = fresh-each (λ s. seenServer s ≡ seenServer pastServer) refl refl refl n i
+fresh-view : (n f i : ℕ) → view (freshCluster n f) i ≡ seenServer pastServer
+fresh-view n f i = fresh-each (λ s. seenServer s ≡ seenServer pastServer) refl refl refl n f i
 
 -- and was told nothing
-fresh-notes : (n i j : ℕ) → noteAt (serverAt (freshCluster n) i .mail) j ≡ zeroNote
-fresh-notes n i j = fresh-each (λ s. noteAt (s .mail) j ≡ zeroNote) (zero-note-at j) (zero-note-at j) refl n i
+fresh-notes : (n f i j : ℕ) → noteAt (serverAt (freshCluster n f) i .mail) j ≡ zeroNote
+fresh-notes n f i j = fresh-each (λ s. noteAt (s .mail) j ≡ zeroNote) (zero-note-at j) (zero-note-at j) refl n f i
 
-fresh-reports : (n i k : ℕ) → reportAt (serverAt (freshCluster n) i .mail .queue) k ≡ zeroReport
-fresh-reports n i k = fresh-each (λ s. reportAt (s .mail .queue) k ≡ zeroReport) (zero-report-at k) (zero-report-at k) refl n i
+fresh-reports : (n f i k : ℕ) → reportAt (serverAt (freshCluster n f) i .mail .queue) k ≡ zeroReport
+fresh-reports n f i k = fresh-each (λ s. reportAt (s .mail .queue) k ≡ zeroReport) (zero-report-at k) (zero-report-at k) refl n f i
 
-fresh-told : (n : ℕ) (p : Place) → toldIn (freshCluster n) p .len ≡ 0
-fresh-told n (note i j) = ap (λ (x : Note). x .len) (fresh-notes n i j)
-fresh-told n (slot i k) = ap (λ (x : Report). x .len) (fresh-reports n i k)
+fresh-told : (n f : ℕ) (p : Place) → toldIn (freshCluster n f) p .len ≡ 0
+fresh-told n f (note i j) = ap (λ (x : Note). x .len) (fresh-notes n f i j)
+fresh-told n f (slot i k) = ap (λ (x : Report). x .len) (fresh-reports n f i k)
 
-pub fresh-seen : (n : ℕ) → Fresh (seenCluster (freshCluster n))
+pub fresh-seen : (n f : ℕ) → Fresh (seenCluster (freshCluster n f))
 unfolding entryAt
-fresh-seen n =
+fresh-seen n f =
     record {
       servers =
           record {
-            len = λ i. ap (λ (s : ServerSeen). s .len) (fresh-view n i);
+            len = λ i. ap (λ (s : ServerSeen). s .len) (fresh-view n f i);
             log = λ i. refl;
-            term = λ i. ap (λ (s : ServerSeen). s .term) (fresh-view n i);
-            role = λ i. ap (λ (s : ServerSeen). s .primary) (fresh-view n i);
-            commit = λ i. ap (λ (s : ServerSeen). s .commit) (fresh-view n i);
+            term = λ i. ap (λ (s : ServerSeen). s .term) (fresh-view n f i);
+            role = λ i. ap (λ (s : ServerSeen). s .primary) (fresh-view n f i);
+            commit = λ i. ap (λ (s : ServerSeen). s .commit) (fresh-view n f i);
           };
-      told = fresh-told n;
+      told = fresh-told n f;
     }
 
 -- ---- entries

@@ -7,7 +7,6 @@ use native.Mathlib.Omega.{arith}
 use borrow.Author.Tests.{leb-true, le-leb, eqb-true}
 use lib.Dec.{eqb, ltb, leb}
 use lib.ListN.{length, length-take}
-use Rattle.base.specs.Numbers.{every}
 use Rattle.base.proofs.Bools.{and-both, and-left, and-right}
 use Rattle.base.proofs.Every.{every-at, every-all}
 use Rattle.log.specs.Logs.{logLimit, highestPosition, kept}
@@ -23,9 +22,9 @@ use Rattle.mail.specs.Order.{isUnused, noteOk, notesOk, slotOk, queueOk, mailOk
 use Rattle.mail.proofs.Good.{note-good, used-good, unused-is}
 use Rattle.cluster.specs.declared.Server.{Server}
 use Rattle.cluster.specs.declared.Cluster.{Cluster}
-use Rattle.cluster.specs.Servers.{fewestServers, mostServers, serverAt}
-use Rattle.cluster.specs.WellFormed.{countedOk, zeroOk, serverOk, wellFormed}
-use Rattle.saved.specs.Editions.{Edition, newest, notesWithin, reportsWithin, allowsServer, allows, hasForm}
+use Rattle.cluster.specs.Servers.{mostServers, serverAt}
+use Rattle.cluster.specs.WellFormed.{countedOk, zeroOk, roleOk, serverOk, sizeOk, wellFormed}
+use Rattle.saved.specs.Editions.{Edition, newest, notesWithin, reportsWithin, allowsServer, allowsFollowers, allows, hasForm}
 
 -- ---- lengths in mail
 
@@ -60,12 +59,12 @@ unfolding allowsServer
 server-allowed s count i short h =
     and-both _ _ (le-leb (length (kept (s .log))) logLimit (omega (arith, length-take (s .log .len) (s .log .entries)))) (and-both _ _ (notes-short count i (s .mail) h) (reports-short count i (s .mail) h))
 
-ok-allowed : (n i : ℕ) (s : Server) → serverOk n i s ≡ true → allowsServer newest s ≡ true
+ok-allowed : (n f i : ℕ) (s : Server) → serverOk n f i s ≡ true → allowsServer newest s ≡ true
 unfolding serverOk countedOk logOk zeroOk isEmptyLog
-ok-allowed n i s h = go (ltb i n) (and-right (rowsOk (s .rows) (s .log) (s .head .commit)) _ h)
+ok-allowed n f i s h = go (ltb i n) (and-right (rowsOk (s .rows) (s .log) (s .head .commit)) _ h)
   where
-    go : (b : Bool) → cond b (countedOk s && mailOk n i (s .mail)) (zeroOk s && mailOk 0 i (s .mail)) ≡ true → allowsServer newest s ≡ true
-    go true h = server-allowed s n i (leb-true (s .log .len) logLimit (and-left _ _ (and-left _ _ (and-left _ _ h)))) (and-right (countedOk s) _ h)
+    go : (b : Bool) → cond b (countedOk s && (mailOk n i (s .mail) && roleOk f i s)) (zeroOk s && mailOk 0 i (s .mail)) ≡ true → allowsServer newest s ≡ true
+    go true h = server-allowed s n i (leb-true (s .log .len) logLimit (and-left _ _ (and-left _ _ (and-left _ _ h)))) (and-left _ _ (and-right (countedOk s) _ h))
     go false h = server-allowed s 0 i (omega (arith, eqb-true (s .log .len) 0 (and-left _ _ (and-left _ _ (and-left _ _ h))))) (and-right (zeroOk s) _ h)
 
 -- ---- the record
@@ -74,8 +73,8 @@ pub newest-allows : (c : Cluster) → wellFormed c ≡ true → allows newest c 
 unfolding wellFormed allows
 newest-allows c h =
     every-all _ mostServers
-    (λ i l. ok-allowed (c .count) i (serverAt c i)
-    (every-at (λ j. serverOk (c .count) j (serverAt c j)) mostServers i (and-right (leb (c .count) mostServers) _ (and-right (leb fewestServers (c .count)) _ h)) l))
+    (λ i l. ok-allowed (c .count) (c .followers) i (serverAt c i)
+    (every-at (λ j. serverOk (c .count) (c .followers) j (serverAt c j)) mostServers i (and-right (sizeOk (c .count) (c .followers)) _ h) l))
 
 pub newest-form : (c : Cluster) → hasForm newest c ≡ wellFormed c
 unfolding hasForm
@@ -89,3 +88,8 @@ newest-form c = go (wellFormed c) (newest-allows c)
 pub form-formed : (e : Edition) (c : Cluster) → hasForm e c ≡ true → wellFormed c ≡ true
 unfolding hasForm
 form-formed e c h = and-left _ _ h
+
+-- and its followers have a field there, or it has none
+pub form-followers : (e : Edition) (c : Cluster) → hasForm e c ≡ true → allowsFollowers (e .widths) (c .followers) ≡ true
+unfolding hasForm allows
+form-followers e c h = and-left _ _ (and-right (wellFormed c) _ h)

@@ -3,7 +3,7 @@ use mathlib.Core.Path.{_≡_, refl, sym, ap, _∙_}
 use mathlib.Core.List.{List, [], _∷_, _++_, append-assoc}
 use Prim.Native.Nat.{ℕ, zero, suc, _+_, _<_, _≤_}
 use native.Mathlib.Omega.{arith}
-use lib.ListN.{length, length-append}
+use lib.ListN.{length, take, length-append}
 use lib.Seq.{getD-append-seam, getD-append-add}
 use Rattle.base.specs.Numbers.{byte}
 use Rattle.clock.specs.Times.{limit}
@@ -17,6 +17,13 @@ written-size [] ns e = refl
 written-size (w ∷ ws) [] e = absurd (omega arith)
 written-size (one ∷ ws) (n ∷ ns) e = omega (arith, written-size ws ns (omega arith))
 written-size (two ∷ ws) (n ∷ ns) e = omega (arith, written-size ws ns (omega arith))
+
+-- a number past the fields is left out
+pub fields-taken : (ws : List Width) (ns : List ℕ) → fieldBytes ws ns ≡ fieldBytes ws (take (length ws) ns)
+fields-taken [] ns = refl
+fields-taken (w ∷ ws) [] = refl
+fields-taken (one ∷ ws) (n ∷ ns) = cc (fields-taken ws ns)
+fields-taken (two ∷ ws) (n ∷ ns) = cc (fields-taken ws ns)
 
 -- ---- bytes
 

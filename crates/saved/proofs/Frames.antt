@@ -1,15 +1,14 @@
 -- The frames of a record that fits and is well formed: each is of bytes, and their text is no longer than the longest. Assumes nothing.
-use mathlib.Core.Path.{_≡_, refl, sym, ap, subst}
-use mathlib.Core.Bool.{Bool, true, false, cond, not, _&&_}
+use mathlib.Core.Path.{_≡_, refl, ap}
+use mathlib.Core.Bool.{Bool, true, false, cond, not}
 use mathlib.Core.List.{List, [], _∷_, _++_, map}
 use Prim.Native.Nat.{ℕ, suc, _+_, _*_, _<_, _≤_}
 use native.Mathlib.Nat.{zero-mul, suc-mul}
 use native.Mathlib.Omega.{arith}
 use borrow.Author.Tests.{leb-true, lt-ltb}
-use lib.Dec.{leb}
 use lib.ListN.{length, getD, take, length-take, length-append}
 use lib.Seq.{getD-take}
-use Rattle.base.specs.Numbers.{byte, every}
+use Rattle.base.specs.Numbers.{byte}
 use Rattle.base.proofs.Bools.{and-left, and-right}
 use Rattle.base.proofs.Every.{every-at}
 use Rattle.clock.specs.Times.{isBefore}
@@ -28,18 +27,20 @@ use Rattle.mail.specs.Ranges.{FitsNote}
 use Rattle.mail.proofs.Good.{source-good}
 use Rattle.cluster.specs.declared.Server.{Server}
 use Rattle.cluster.specs.declared.Cluster.{Cluster}
-use Rattle.cluster.specs.Servers.{fewestServers, mostServers, pastServer, serverAt}
-use Rattle.cluster.specs.WellFormed.{numbersOk, countedOk, serverOk, wellFormed}
+use Rattle.cluster.specs.Servers.{mostServers, pastServer, serverAt}
+use Rattle.cluster.specs.WellFormed.{numbersOk, countedOk, serverOk, sizeOk, wellFormed}
 use Rattle.cluster.specs.Ranges.{FitsServer, Fits}
+use Rattle.cluster.proofs.Good.{size-good}
 use Rattle.lines.specs.Texts.{lines}
 use Rattle.saved.specs.declared.Sort.{Sort}
 use Rattle.saved.specs.declared.Sort.the-variants as S
 use Rattle.saved.specs.Layout.{Widths, frame, sizeOf, sortNumber, firstFrame, serverFrame, entryFrame, noteFrame, reportFrame}
-use Rattle.saved.specs.Editions.{Edition, widths1}
+use Rattle.saved.specs.Editions.{Edition, widths1, widths3, editions, editionNumbered}
 use Rattle.saved.specs.Saved.{noteFrames, queuedReports, serverFrames, allFrames, framesOf, textOf, savedAs}
 use Rattle.saved.specs.Written.{Small, lineLength, longestServer, longest}
 use Rattle.saved.proofs.Fields.{Room, room-bytes}
 use Rattle.saved.proofs.Lawful.{Lawful}
+use Rattle.saved.proofs.First.{like}
 use Rattle.saved.proofs.Texts.{AllBytes, all-none, all-more, text-append, text-length, text-frames}
 
 -- ---- one frame
@@ -149,23 +150,20 @@ counted-small n i {s} seven h m =
     }
 
 module _ (c : Cluster) (h : wellFormed c ≡ true) where
-  placed-right : (leb (c .count) mostServers && every mostServers (λ i. serverOk (c .count) i (serverAt c i))) ≡ true
-  unfolding wellFormed
-  placed-right = and-right (leb fewestServers (c .count)) _ h
-
   pub at-most-seven : c .count ≤ mostServers
-  at-most-seven = leb-true (c .count) mostServers (and-left _ _ placed-right)
+  unfolding wellFormed
+  at-most-seven = size-good (and-left _ _ h) .at-most-seven
 
   -- its counted servers are small
   pub small : (i : ℕ) → i < c .count → Small (serverAt c i)
-  unfolding serverOk
+  unfolding wellFormed serverOk
   small i l =
       let m : i < mostServers = omega (arith, at-most-seven) in
       let s = serverAt c i in
       let ok =
       rw (lt-ltb i (c .count) l) at
-      (and-right (rowsOk (s .rows) (s .log) (s .head .commit)) _ (every-at _ mostServers i (and-right (leb (c .count) mostServers) _ placed-right) m)) in
-      counted-small (c .count) i at-most-seven (and-left _ _ ok) (and-right (countedOk (serverAt c i)) _ ok)
+      (and-right (rowsOk (s .rows) (s .log) (s .head .commit)) _ (every-at _ mostServers i (and-right (sizeOk (c .count) (c .followers)) _ h) m)) in
+      counted-small (c .count) i at-most-seven (and-left _ _ ok) (and-left _ _ (and-right (countedOk (serverAt c i)) _ ok))
 
 -- servers that fit and are small
 abbrev AllSmall : List Server → Type 0
@@ -197,7 +195,7 @@ module _ (c : Cluster) (f : Fits c) (h : wellFormed c ≡ true) where
     -- each of its frames is of bytes
     pub frames-bytes : Lawful (e .widths) → AllBytes (framesOf e c)
     frames-bytes l =
-        all-more (frame-bytes (e .widths) S.First _ (l .first (e .number) (c .count) byte-number (omega (arith, at-most-seven c h))))
+        all-more (frame-bytes (e .widths) S.First _ (l .first .room (e .number) (c .count) (c .followers) byte-number (omega (arith, at-most-seven c h)) (f .followers)))
         (all-bytes l (take (c .count) (c .servers)) counted)
 
     -- the bytes of the lines of its saved form are its frames
@@ -205,18 +203,17 @@ module _ (c : Cluster) (f : Fits c) (h : wellFormed c ≡ true) where
     saved-frames l = text-frames (framesOf e c) (frames-bytes l)
 
   -- no saved form is longer than the longest
-  pub saved-length : (e : Edition) → e .widths ≡ widths1 → length (savedAs e c) ≤ longest
-  saved-length e p = subst (λ (w : Widths). length (textOf (firstFrame w (e .number) (c .count) ∷ allFrames w ss)) ≤ longest) (sym p) short
-    where
-      ss : List Server
-      ss = take (c .count) (c .servers)
-
-      short : length (textOf (firstFrame widths1 (e .number) (c .count) ∷ allFrames widths1 ss)) ≤ longest
-      short =
-          omega (
-            arith,
-            text-length (firstFrame widths1 (e .number) (c .count)) (allFrames widths1 ss),
-            all-length ss counted,
-            length-take (c .count) (c .servers),
-            at-most-seven c h,
-          )
+  pub saved-length : (n : ℕ) → length (savedAs (editionNumbered editions n) c) ≤ longest
+  saved-length n =
+      let e = editionNumbered editions n in
+      let ss = take (c .count) (c .servers) in
+      omega (
+        arith,
+        text-length (firstFrame (e .widths) (e .number) (c .count) (c .followers)) (allFrames (e .widths) ss),
+        ap length (like n .front (e .number) (c .count) (c .followers)),
+        length-take (sizeOf (e .widths) S.First) (firstFrame widths3 (e .number) (c .count) (c .followers)),
+        ap (λ (fs : List (List ℕ)). length (textOf fs)) (like n .servers ss),
+        all-length ss counted,
+        length-take (c .count) (c .servers),
+        at-most-seven c h,
+      )

@@ -2,7 +2,7 @@
 use mathlib.Core.Bool.{Bool, false, cond, _&&_, _||_}
 use mathlib.Core.List.{List, [], _∷_}
 use Prim.Native.Nat.{ℕ}
-use lib.Dec.{eqb, leb}
+use lib.Dec.{eqb, ltb, leb}
 use lib.ListN.{length}
 use Rattle.base.specs.Numbers.{every}
 use Rattle.log.specs.Logs.{logLimit, highestPosition, kept}
@@ -16,7 +16,7 @@ use Rattle.cluster.specs.Servers.{mostServers, serverAt}
 use Rattle.cluster.specs.WellFormed.{wellFormed}
 use Rattle.saved.specs.declared.Limits.{Limits}
 use Rattle.saved.specs.declared.Sort.the-variants as S
-use Rattle.saved.specs.Layout.{one, two, Widths}
+use Rattle.saved.specs.Layout.{Width, one, two, Widths}
 
 -- entries: how many a log may have; positions: the greatest length in notes and reports
 pub record Edition : Type 0 where
@@ -27,13 +27,21 @@ pub record Edition : Type 0 where
 
 -- ---- the editions
 
--- the fields of editions 1 and 2
+-- the fields of the frames: those of the first are the edition's own
+abbrev pub widthsBy : List Width → Widths
+widthsBy first S.First = first
+widthsBy first S.Server = two ∷ one ∷ one ∷ one ∷ one ∷ two ∷ two ∷ two ∷ two ∷ two ∷ []
+widthsBy first S.Entry = two ∷ one ∷ two ∷ two ∷ two ∷ []
+widthsBy first S.Note = one ∷ two ∷ two ∷ two ∷ []
+widthsBy first S.Report = one ∷ two ∷ two ∷ two ∷ []
+
+-- of editions 1 and 2
 abbrev pub widths1 : Widths
-widths1 S.First = one ∷ one ∷ []
-widths1 S.Server = two ∷ one ∷ one ∷ one ∷ one ∷ two ∷ two ∷ two ∷ two ∷ two ∷ []
-widths1 S.Entry = two ∷ one ∷ two ∷ two ∷ two ∷ []
-widths1 S.Note = one ∷ two ∷ two ∷ two ∷ []
-widths1 S.Report = one ∷ two ∷ two ∷ two ∷ []
+widths1 = widthsBy (one ∷ one ∷ [])
+
+-- of edition 3, whose first frame has the followers too
+abbrev pub widths3 : Widths
+widths3 = widthsBy (one ∷ one ∷ one ∷ [])
 
 abbrev pub edition1 : Edition
 edition1 = record { number = 1; entries = 32; positions = 32; widths = widths1 }
@@ -41,12 +49,15 @@ edition1 = record { number = 1; entries = 32; positions = 32; widths = widths1 }
 abbrev pub edition2 : Edition
 edition2 = record { number = 2; entries = logLimit; positions = highestPosition; widths = widths1 }
 
+abbrev pub edition3 : Edition
+edition3 = record { number = 3; entries = logLimit; positions = highestPosition; widths = widths3 }
+
 -- those that the program knows; it writes the newest
 abbrev pub editions : List Edition
-editions = edition1 ∷ edition2 ∷ []
+editions = edition1 ∷ edition2 ∷ edition3 ∷ []
 
 abbrev pub newest : Edition
-newest = edition2
+newest = edition3
 
 -- ---- by their numbers
 
@@ -62,8 +73,12 @@ editionNumbered (e ∷ es) n = cond (eqb n (e .number)) e (editionNumbered es n)
 
 -- ---- what they allow
 
+-- the first frame has a field for the followers
+abbrev pub tellsFollowers : Widths → Bool
+tellsFollowers w = ltb 2 (length (w S.First))
+
 abbrev pub limitsOf : Edition → Limits
-limitsOf e = record { entries = e .entries; positions = e .positions }
+limitsOf e = record { entries = e .entries; positions = e .positions; followers = tellsFollowers (e .widths) }
 
 unfoldable pub notesWithin : ℕ → Mail → Bool
 notesWithin n m = every noteSlots (λ i. leb (noteAt m i .len) n)
@@ -75,9 +90,12 @@ unfoldable pub allowsServer : Edition → Server → Bool
 allowsServer e s =
     leb (length (kept (s .log))) (e .entries) && (notesWithin (e .positions) (s .mail) && reportsWithin (e .positions) (s .mail .queue))
 
--- a record with no more entries in a log, and no greater lengths in notes and reports, than the edition has
+abbrev pub allowsFollowers : Widths → ℕ → Bool
+allowsFollowers w f = tellsFollowers w || eqb f 0
+
+-- a record without followers, unless the edition has them; with no more entries in a log, and no greater lengths in notes and reports, than it has
 unfoldable pub allows : Edition → Cluster → Bool
-allows e c = every mostServers (λ i. allowsServer e (serverAt c i))
+allows e c = allowsFollowers (e .widths) (c .followers) && every mostServers (λ i. allowsServer e (serverAt c i))
 
 -- a record that the edition has a form for
 unfoldable pub hasForm : Edition → Cluster → Bool

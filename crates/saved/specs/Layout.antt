@@ -23,7 +23,7 @@ pub data Width : Type 0 where
   one : Width
   two : Width
 
--- the bytes of numbers, a field each
+-- the bytes of numbers, a field each; a number past the fields is left out
 abbrev pub fieldBytes : List Width → List ℕ → List ℕ
 fieldBytes [] ns = []
 fieldBytes (w ∷ ws) [] = []
@@ -70,9 +70,9 @@ saidAt w s bs i = byteAt (numbersIn w s bs) i
 
 -- ---- what they say
 
--- the edition and the server count
-abbrev pub firstFrame : Widths → ℕ → ℕ → List ℕ
-firstFrame w edition size = frame w S.First (edition ∷ size ∷ [])
+-- the edition, the server count, and the followers where there is a field for them
+abbrev pub firstFrame : Widths → ℕ → ℕ → ℕ → List ℕ
+firstFrame w edition size followers = frame w S.First (edition ∷ size ∷ followers ∷ [])
 
 -- how many notes are used
 abbrev pub usedNotes : Mail → ℕ

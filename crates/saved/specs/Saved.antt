@@ -37,7 +37,7 @@ module _ (w : Widths) where
 
 -- the first frame, and then server by server
 abbrev pub framesOf : Edition → Cluster → List (List ℕ)
-framesOf e c = firstFrame (e .widths) (e .number) (c .count) ∷ allFrames (e .widths) (take (c .count) (c .servers))
+framesOf e c = firstFrame (e .widths) (e .number) (c .count) (c .followers) ∷ allFrames (e .widths) (take (c .count) (c .servers))
 
 -- each frame is a line of lower-case hexadecimal, ended by a line feed, also the last
 abbrev pub textOf : List (List ℕ) → List ℕ

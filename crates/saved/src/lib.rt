@@ -9,8 +9,8 @@ ghost use Rattle.log.specs.Logs.{logLimit, kept};
 ghost use Rattle.mail.specs.Queues.{queueLimit};
 ghost use Rattle.cluster.specs.Servers.{mostServers};
 ghost use Rattle.cluster.specs.WellFormed.{wellFormed};
-ghost use Rattle.saved.specs.Layout.{fieldBytes, sortNumber, usedNotes, firstFrame, serverFrame, entryFrame, toldNumbers, noteFrame, reportFrame};
-ghost use Rattle.saved.specs.Editions.{widths1, editions, isKnown, editionNumbered, notesWithin, reportsWithin, allowsServer, allows, hasForm, limitsOf};
+ghost use Rattle.saved.specs.Layout.{fieldBytes, sortNumber, sizeOf, usedNotes, firstFrame, serverFrame, entryFrame, toldNumbers, noteFrame, reportFrame};
+ghost use Rattle.saved.specs.Editions.{widths1, widths3, editions, isKnown, editionNumbered, notesWithin, reportsWithin, allowsServer, allowsFollowers, allows, hasForm, limitsOf};
 ghost use Rattle.saved.specs.Saved.{noteFrames, queuedReports, serverFrames, allFrames, textOf};
 ghost use Rattle.saved.specs.Written.{Written, Small, longestServer, savedAsOf, savedAsOut, savedOf, savedOut};
 ghost use Rattle.saved.specs.declared.Sort.the-variants as S;
@@ -27,16 +27,18 @@ use steps::Refusal;
 use words::high;
 use words::low;
 
-// The edition that is written, and the one before, which is read.
-pub const EDITION: u8 = 2;
+// The edition that is written, and those before, which are read.
+pub const EDITION: u8 = 3;
+
+pub const EDITION_2: u8 = 2;
 
 pub const EDITION_1: u8 = 1;
 
 // How many entries a log may have in edition 1, and the greatest length of a note or a report.
 const LIMIT_1: usize = 32;
 
-// How many bytes the frames have.
-pub const FIRST_BYTES: usize = 3;
+// How many bytes the frames have; a first frame of editions 1 and 2 has one fewer, no followers.
+pub const FIRST_BYTES: usize = 4;
 
 pub const SERVER_BYTES: usize = 17;
 
@@ -79,10 +81,11 @@ pub enum Sort {
     Report,
 }
 
-// What the records of an edition may hold: entries in a log, and lengths in notes and reports.
+// What the records of an edition may hold: entries in a log, lengths in notes and reports, and whether followers.
 pub struct Limits {
     pub entries: usize,
     pub positions: usize,
+    pub followers: bool,
 }
 
 // What a saving gives: a text of so many bytes, or why there is none.
@@ -111,6 +114,9 @@ pub fn is_known(edition: u8) -> bool
     if edition == EDITION_1 {
         return true;
     }
+    if edition == EDITION_2 {
+        return true;
+    }
     edition == EDITION
 }
 
@@ -122,12 +128,24 @@ pub fn limits_of(edition: u8) -> Limits
         return Limits {
             entries: LIMIT_1,
             positions: LIMIT_1,
+            followers: false,
         };
     }
     Limits {
         entries: log::LOG_LIMIT,
         positions: log::HIGHEST_POSITION,
+        followers: edition != EDITION_2,
     }
+}
+
+// How many bytes a first frame of an edition has.
+pub fn first_bytes(edition: u8) -> usize
+    ensures { λ r. ⌜ r ≡ sizeOf (editionNumbered editions edition .widths) S.First ⌝ }
+{
+    if limits_of(edition).followers {
+        return FIRST_BYTES;
+    }
+    FIRST_BYTES - 1
 }
 
 // Whether no note is of a greater length.
@@ -177,10 +195,23 @@ fn allows_server(edition: u8, s: Server) -> bool
     reports_within(q, most.positions)
 }
 
+// Whether there are no followers, or the edition has them.
+fn allows_followers(edition: u8, followers: u8) -> bool
+    ensures { λ r. ⌜ r ≡ allowsFollowers (editionNumbered editions edition .widths) followers ⌝ }
+{
+    if limits_of(edition).followers {
+        return true;
+    }
+    followers == 0
+}
+
 // Whether a record has no more than the edition allows.
 pub fn allows(edition: u8, c: Cluster) -> bool
     ensures { λ r. ⌜ r ≡ allows (editionNumbered editions edition) c ⌝ }
 {
+    if !allows_followers(edition, c.followers) {
+        return false;
+    }
     let mut i = 0;
     while i < cluster::MOST_SERVERS {
         let s = c.servers[i];
@@ -202,12 +233,12 @@ fn has_form(edition: u8, c: Cluster) -> bool
     allows(edition, c)
 }
 
-// The edition and the server count.
-fn first_frame(edition: u8, size: usize) -> [u8; FIRST_BYTES]
+// The edition, the server count and the followers.
+fn first_frame(edition: u8, size: usize, followers: u8) -> [u8; FIRST_BYTES]
     requires { ⌜ size < byte ⌝ }
-    ensures { λ r. ⌜ r ≡ firstFrame widths1 edition size ⌝ }
+    ensures { λ r. ⌜ r ≡ firstFrame widths3 edition size followers ⌝ }
 {
-    [sort_number(Sort::First), edition, size as u8]
+    [sort_number(Sort::First), edition, size as u8, followers]
 }
 
 // How many notes are used.
@@ -423,8 +454,9 @@ pub fn save_as(edition: u8, c: Cluster, out: &mut [u8]) -> Saved
     if out.len() < LONGEST {
         return Saved::NoRoom;
     }
-    let f = first_frame(edition, c.count);
-    let past = put_line(out, 0, &f);
+    let f = first_frame(edition, c.count, c.followers);
+    let n = first_bytes(edition);
+    let past = put_line(out, 0, &f[..n]);
     let end = put_servers(out, past, c);
     Saved::Text(end)
 }

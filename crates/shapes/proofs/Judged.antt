@@ -9,17 +9,17 @@ use Rattle.hex.specs.Lines.{bytesOf, over}
 use Rattle.lines.specs.Held.{nothingRead}
 use Rattle.lines.proofs.Held.{held-over, held-past, held-within}
 use Rattle.saved.specs.declared.Sort.{Sort}
-use Rattle.saved.specs.Layout.{Widths, sizeOf}
+use Rattle.saved.specs.Layout.{sizeOf}
 use Rattle.saved.specs.Editions.{editions, widths1}
 use Rattle.saved.specs.Shape.{isFrame}
 use Rattle.saved.specs.Written.{mostBytes}
-use Rattle.saved.proofs.Lawful.{both-same}
+use Rattle.shapes.specs.declared.Left.{Left}
 use Rattle.shapes.specs.declared.Shape.{Shape}
 use Rattle.shapes.specs.declared.Due.{Due}
 use Rattle.shapes.specs.declared.Due.the-variants.{Frame, End}
 use Rattle.lines.specs.Texts.{oneMore}
 use Rattle.shapes.specs.Walk.{keptChars, frameReader, dueOf, editionFor, shapeHeld, brokenAt, nextLine, isNext, endedAs, lineEnded}
-use Rattle.shapes.proofs.Frames.{small, bytes-same, saysSo, left-same}
+use Rattle.shapes.proofs.Frames.{small, bytes-same, saysSo, left-same, left-any}
 use Rattle.shapes.proofs.Next.{next-none, reads-all}
 
 module _ (s : Shape) where
@@ -31,12 +31,16 @@ module _ (s : Shape) where
     abbrev next : List ℕ → Bool
     next line = isNext editions k (s .left .edition) line
 
+    -- the next line, with these frames left
+    abbrev after : Left → Shape
+    after l = record { left = l; reader = nothingRead keptChars frameReader; number = oneMore (s .number); broken = s .broken }
+
     by-test : (t : Bool) → next (shapeHeld s) ≡ t → cond t (nextLine widths1 k (bytesOf (shapeHeld s)) s) (brokenAt s) ≡ lineEnded s
     unfolding endedAs
     by-test t e =
         sym
         (ap (λ (d : Due). endedAs editions d s) due
-        ∙ ap (λ (w : Widths). cond (next (shapeHeld s)) (nextLine w k (bytesOf (shapeHeld s)) s) (brokenAt s)) (both-same (editionFor k (s .left .edition) (bytesOf (shapeHeld s))))
+        ∙ (λ i. cond (next (shapeHeld s)) (after (left-any (editionFor k (s .left .edition) (bytesOf (shapeHeld s))) k (bytesOf (shapeHeld s)) (s .left) i)) (brokenAt s))
         ∙ ap (λ (x : Bool). cond x (nextLine widths1 k (bytesOf (shapeHeld s)) s) (brokenAt s)) e)
 
     -- too long, by its flag or by its fill: a frame in no edition
@@ -63,6 +67,6 @@ module _ (s : Shape) where
       judged-frame q bs e f g =
           let line = take (s .reader .fill) (s .reader .held) in
           let held : line ≡ shapeHeld s = held-within keptChars (s .reader .held) (s .reader .fill) (s .reader .over) o h in
-          let same = left-same bs (bytesOf line) (bytes-same line bs (omega (arith, length-take (s .reader .fill) (s .reader .held))) f) widths1 k (s .left) in
-          g ∙ (λ i. record { left = same i; reader = nothingRead keptChars frameReader; number = oneMore (s .number); broken = s .broken })
+          let same = left-same bs (bytesOf line) (λ i. bytes-same line bs f i (λ l. omega (arith, length-take (s .reader .fill) (s .reader .held)))) widths1 k (s .left) in
+          g ∙ (λ i. after (same i))
           ∙ ap (λ (x : List ℕ). nextLine widths1 k (bytesOf x) s) held ∙ by-test true (ap next (sym held) ∙ e)

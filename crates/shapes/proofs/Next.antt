@@ -1,12 +1,13 @@
 -- The line that is held is the frame that is due exactly where the characters are that it stands for. Assumes nothing.
-use mathlib.Core.Path.{_≡_, sym, ap, subst, _∙_}
-use mathlib.Core.Bool.{true, false, _&&_, false≢true}
+use mathlib.Core.Path.{_≡_, sym, ap, _∙_}
+use mathlib.Core.Bool.{true, false, false≢true}
 use mathlib.Core.List.{List, [], _∷_}
 use mathlib.Core.Logic.{⊎-elim}
 use Prim.Native.Nat.{ℕ, _<_}
 use native.Mathlib.Omega.{arith}
 use lib.ListN.{length}
 use Rattle.base.proofs.Bools.{and-no, and-left, and-right}
+use Rattle.base.proofs.Cases.{_▸_}
 use Rattle.base.proofs.Facts.{lt-or-le}
 use Rattle.hex.specs.Lines.{bytesOf}
 use Rattle.hex.proofs.Places.{hex-length}
@@ -15,9 +16,9 @@ use Rattle.lines.proofs.Held as Held
 use Rattle.lines.proofs.Held.{held-is, held-framed}
 use Rattle.saved.specs.declared.Sort.{Sort}
 use Rattle.saved.specs.Layout.{Widths, sizeOf}
-use Rattle.saved.specs.Editions.{Edition, edition1, editions, widths1, isKnown, editionNumbered}
+use Rattle.saved.specs.Editions.{Edition, edition1, edition2, editions, isKnown, editionNumbered}
 use Rattle.saved.specs.Shape.{isFrame}
-use Rattle.saved.proofs.Lawful.{Lawful, lawful1, both-same, old-same}
+use Rattle.saved.proofs.Lawful.{Lawful, lawful1, lawful3, numbered}
 use Rattle.shapes.specs.declared.Shape.{Shape}
 use Rattle.shapes.specs.Walk.{keptChars, editionFor, isNext, shapeHeld}
 use Rattle.shapes.proofs.Frames.{small, saysSo}
@@ -66,15 +67,13 @@ module _ (knows : List Edition) where
         let f = is-frame (sizeOf w k) (saysSo k) false p true (next-frame k n p e) false≢true in
         held-is h (omega (arith, small (r (editionFor k n (bytesOf p))) k, hex-length (bytesOf p), f .long, ap length (f .written)))
 
--- ---- a reader of all editions, whose fields are the same
+-- ---- a reader of all editions, one of edition 1 alone, and one of those before the newest
 
 pub reads-all : Reads editions
-reads-all n = subst Lawful (sym (both-same n)) lawful1
+reads-all = numbered (λ e. Lawful (e .widths)) editions (lawful1 ▸ lawful1 ▸ lawful3 ▸ lawful3)
 
--- and one of edition 1 alone
 pub reads-old : Reads (edition1 ∷ [])
-reads-old n = subst Lawful (sym (old-same n)) lawful1
+reads-old = numbered (λ e. Lawful (e .widths)) (edition1 ∷ []) (lawful1 ▸ lawful3)
 
-pub next-by : (k : Sort) (n : ℕ) (line : List ℕ) → isNext editions k n line ≡ (isKnown editions (editionFor k n (bytesOf line)) && isFrame widths1 k line)
-unfolding isNext
-next-by k n line = ap (λ (w : Widths). isKnown editions (editionFor k n (bytesOf line)) && isFrame w k line) (both-same (editionFor k n (bytesOf line)))
+pub reads-earlier : Reads (edition1 ∷ edition2 ∷ [])
+reads-earlier = numbered (λ e. Lawful (e .widths)) (edition1 ∷ edition2 ∷ []) (lawful1 ▸ lawful1 ▸ lawful3)

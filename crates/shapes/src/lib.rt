@@ -7,7 +7,7 @@ ghost use lib.ListN.{replicate};
 ghost use Rattle.hex.specs.Lines.{bytesOf, over};
 ghost use Rattle.words.specs.Words.{byteAt};
 ghost use Rattle.saved.specs.Layout.{sortNumber, sizeOf};
-ghost use Rattle.saved.specs.Editions.{widths1, editions, isKnown};
+ghost use Rattle.saved.specs.Editions.{widths1, editions, isKnown, editionNumbered};
 ghost use Rattle.saved.specs.Written.{mostBytes};
 ghost use Rattle.lines.specs.Held.{nothingRead, onlyLong};
 ghost use Rattle.shapes.specs.Walk.{keptChars, frameReader, framePush, shapePush, freshShape, dueOf, editionFor, leftAfter, isNext, brokenAt, nextLine, lineEnded, walked, isShaped};
@@ -49,12 +49,12 @@ pub enum Due {
     End,
 }
 
-// How many bytes a frame of the sort has, in every edition that is known.
-fn size_of(k: Sort) -> usize
-    ensures { λ r. ⌜ r ≡ sizeOf widths1 k ⌝ }
+// How many bytes a frame of the sort has in an edition.
+fn size_of(edition: u8, k: Sort) -> usize
+    ensures { λ r. ⌜ r ≡ sizeOf (editionNumbered editions edition .widths) k ⌝ }
 {
     match k {
-        Sort::First => saved::FIRST_BYTES,
+        Sort::First => saved::first_bytes(edition),
         Sort::Server => saved::SERVER_BYTES,
         Sort::Entry => saved::ENTRY_BYTES,
         Sort::Note => saved::TOLD_BYTES,
@@ -84,28 +84,29 @@ fn bytes_in(line: &[u8]) -> [u8; saved::SERVER_BYTES]
     b
 }
 
-// Whether a frame with these bytes says that it is of the sort, in an edition that is known.
+// Whether a frame with these bytes says that it is of the sort, and its edition is known.
 fn says(k: Sort, edition: u8, b: [u8; saved::SERVER_BYTES]) -> bool
-    ensures { λ r. ⌜ r ≡ (eqb (byteAt b 0) (sortNumber k) && isKnown editions (editionFor k edition b)) ⌝ }
+    ensures { λ r. ⌜ r ≡ (eqb (byteAt b 0) (sortNumber k) && isKnown editions edition) ⌝ }
 {
     if b[0] != saved::sort_number(k) {
         return false;
     }
-    saved::is_known(edition_for(k, edition, b))
+    saved::is_known(edition)
 }
 
 // Whether the line is a frame of the sort in its edition.
 fn is_next(k: Sort, edition: u8, line: &[u8]) -> bool
     ensures { λ r. ⌜ r ≡ isNext editions k edition (now (line .entry)) ⌝ }
 {
-    if line.len() != hex::CHARS * size_of(k) {
+    let b = bytes_in(line);
+    let own = edition_for(k, edition, b);
+    if line.len() != hex::CHARS * size_of(own, k) {
         return false;
     }
     if !hex::all_hex(line) {
         return false;
     }
-    let b = bytes_in(line);
-    says(k, edition, b)
+    says(k, own, b)
 }
 
 fn one_less(n: usize) -> usize

@@ -29,7 +29,6 @@ use Rattle.lines.specs.Texts.{together}
 use Rattle.saved.specs.Editions.{editions}
 use Rattle.saved.specs.Shape.{namedBy}
 use Rattle.saved.specs.Written.{longest}
-use Rattle.saved.proofs.Lawful.{both-same}
 use Rattle.saved.proofs.Frames.{saved-length}
 use Rattle.saved.proofs.Allowed.{form-formed}
 use Rattle.shapes.specs.declared.Shape.{Shape}
@@ -174,7 +173,7 @@ led-exactly d text f = (to (ltb longest (length text)) refl (loads-or-refuses ed
     from e =
         let s = loads-exactly editions reads-all zeroCluster d text f .0 e in
         let formed = form-formed (editionOf editions text) d (s .1) in
-        led-as text (subst (λ (t : List ℕ). length t ≤ longest) (s .2) (saved-length d f formed (editionOf editions text) (both-same (namedBy text))))
+        led-as text (subst (λ (t : List ℕ). length t ≤ longest) (s .2) (saved-length d f formed (namedBy text)))
         ∙ ap (λ (x : Outcome). ledBy (x .cluster) (x .answer)) e
 
 -- all that was read is the text that is taken: what came after it was nothing, or made it too long

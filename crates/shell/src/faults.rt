@@ -22,6 +22,7 @@ pub(crate) enum OfServer {
     NoSuchSource(usize),
     OwnSource,
     Role(u8),
+    Follower,
     NoTerm,
     Commit(usize, usize),
     NoWall,
@@ -56,18 +57,21 @@ pub(crate) enum OfTold {
 pub(crate) enum Fault {
     Nothing,
     Count,
+    NoSuchFollower(usize),
+    Voters(usize),
     Server(OfServer),
     Entry(OfEntry),
     Note(u8, OfTold),
     Report(u8, OfTold),
 }
 
-// How far a text is walked: its lines, its edition, the server count, the server that was begun last and the next one, what was read of it (entries and the
-// last one, notes and whose the last one is, reports), and what was found. Once something is found the walk stays there.
+// How far a text is walked: its lines, its edition, the server count and the followers, the server that was begun last and the next one, what was read of it
+// (entries and the last one, notes and whose the last one is, reports), and what was found. Once something is found the walk stays there.
 pub(crate) struct Walk {
     pub line: usize,
     pub edition: u8,
     pub count: usize,
+    pub followers: u8,
     pub server: usize,
     pub next: usize,
     pub head: Head,
@@ -84,6 +88,7 @@ fn begun() -> Walk {
         line: 0,
         edition: 0,
         count: 0,
+        followers: 0,
         server: 0,
         next: 0,
         head: Head {
@@ -106,18 +111,39 @@ fn one_more(n: usize) -> usize {
     if n < usize::MAX { n + 1 } else { n }
 }
 
-fn counted(w: Walk, edition: u8, count: usize) -> Walk {
-    let c = Walk {
+// The lowest follower that is no server; the highest that a set can have where all are.
+fn no_such_follower(count: usize, followers: u8) -> usize {
+    let mut i: usize = 0;
+    while i < cluster::MOST_SERVERS {
+        if count <= i && cluster::sets::is_member(followers, i) {
+            return i;
+        }
+        i += 1;
+    }
+    cluster::MOST_SERVERS
+}
+
+fn size_fault(count: usize, followers: u8) -> Fault {
+    if count < cluster::FEWEST_SERVERS || cluster::MOST_SERVERS < count {
+        return Fault::Count;
+    }
+    if !cluster::sets::within(followers, count) {
+        return Fault::NoSuchFollower(no_such_follower(count, followers));
+    }
+    let voters = cluster::sets::voters(count, followers);
+    if voters < cluster::FEWEST_VOTERS {
+        return Fault::Voters(voters);
+    }
+    Fault::Nothing
+}
+
+fn counted(w: Walk, edition: u8, count: usize, followers: u8) -> Walk {
+    Walk {
         edition: edition,
         count: count,
+        followers: followers,
+        fault: size_fault(count, followers),
         ..w
-    };
-    if cluster::FEWEST_SERVERS <= count && count <= cluster::MOST_SERVERS {
-        return c;
-    }
-    Walk {
-        fault: Fault::Count,
-        ..c
     }
 }
 
@@ -135,9 +161,12 @@ fn source_fault(count: usize, server: usize, source: usize) -> OfServer {
     OfServer::Nothing
 }
 
-fn head_fault(entries: usize, role: u8, h: Head) -> OfServer {
+fn head_fault(entries: usize, role: u8, votes: bool, h: Head) -> OfServer {
     if PRIMARY < role {
         return OfServer::Role(role);
+    }
+    if h.primary && !votes {
+        return OfServer::Follower;
     }
     if h.primary && h.term < 1 {
         return OfServer::NoTerm;
@@ -151,7 +180,13 @@ fn head_fault(entries: usize, role: u8, h: Head) -> OfServer {
     OfServer::Nothing
 }
 
-fn server_fault(most: Limits, count: usize, server: usize, b: [u8; BYTES]) -> OfServer {
+fn server_fault(
+    most: Limits,
+    count: usize,
+    followers: u8,
+    server: usize,
+    b: [u8; BYTES],
+) -> OfServer {
     let entries = words::word(b[1], b[2]) as usize;
     let notes = b[3] as usize;
     let reports = b[4] as usize;
@@ -168,15 +203,17 @@ fn server_fault(most: Limits, count: usize, server: usize, b: [u8; BYTES]) -> Of
     let OfServer::Nothing = f else {
         return f;
     };
-    head_fault(entries, b[6], loads::head_in(b))
+    let votes = cluster::sets::does_vote(followers, server);
+    head_fault(entries, b[6], votes, loads::head_in(b))
 }
 
 fn with_server(w: Walk, b: [u8; BYTES]) -> Walk {
-    let f = server_fault(saved::limits_of(w.edition), w.count, w.next, b);
+    let f = server_fault(saved::limits_of(w.edition), w.count, w.followers, w.next, b);
     Walk {
         line: w.line,
         edition: w.edition,
         count: w.count,
+        followers: w.followers,
         server: w.next,
         next: one_more(w.next),
         head: loads::head_in(b),
@@ -314,7 +351,7 @@ fn in_report(who: u8, f: OfTold) -> Fault {
 fn with_frame(w: Walk, b: [u8; BYTES]) -> Walk {
     let sort = b[0];
     match sort {
-        FIRST => counted(w, b[1], b[2] as usize),
+        FIRST => counted(w, b[1], b[2] as usize, loads::followers_in(b[1], b)),
         SERVER => with_server(w, b),
         ENTRY => with_entry(w, loads::entry_in(b)),
         NOTE => with_note(w, loads::report_in(b)),

@@ -149,11 +149,15 @@ fn differ(a: [u16; KEYS], b: [u16; KEYS]) -> bool {
     false
 }
 
-fn role(r: Row, primary: bool) -> Row {
+// A follower is told from a secondary that votes.
+fn role(r: Row, primary: bool, votes: bool) -> Row {
     if primary {
         return put(r, b"primary");
     }
-    put(r, b"secondary")
+    if votes {
+        return put(r, b"secondary");
+    }
+    put(r, b"follower")
 }
 
 // Writes the rows of a server's committed beginning.
@@ -167,7 +171,7 @@ fn committed(r: Row, s: Server, l: Listed) -> Row {
 }
 
 // Writes a server's rows, where all before them could be written; whether they could.
-fn server(i: usize, s: Server, wrote: bool) -> bool {
+fn server(i: usize, votes: bool, s: Server, wrote: bool) -> bool {
     let covered = lists::committed_list(s);
     let whole = lists::whole_list(s);
     let committed_row = covered.latest;
@@ -175,7 +179,7 @@ fn server(i: usize, s: Server, wrote: bool) -> bool {
     let safe = committed_row.values;
     let values = whole_row.values;
     let numbered = number(blank(wrote), i);
-    let named = role(to_column(numbered, ROLE), s.head.primary);
+    let named = role(to_column(numbered, ROLE), s.head.primary, votes);
     let begun = number(to_column(named, TERM), s.head.term as usize);
     let first = committed(begun, s, covered);
     if !differ(values, safe) {
@@ -200,7 +204,8 @@ pub(crate) fn table(c: Cluster) -> bool {
     while i < cluster::MOST_SERVERS {
         if i < count {
             let s = c.servers[i];
-            wrote = server(i, s, wrote);
+            let votes = cluster::sets::does_vote(c.followers, i);
+            wrote = server(i, votes, s, wrote);
         }
         i += 1;
     }

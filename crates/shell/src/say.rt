@@ -78,7 +78,7 @@ pub(crate) fn nothing_loaded(refusal: usize) {
 fn frame(s: Sort) {
     match s {
         Sort::First => say(
-            b"a first frame of edition 1 or 2: 6 characters 0-9 a-f that begin with 0001 or 0002",
+            b"a first frame: 6 characters 0-9 a-f that begin with 0001 or 0002, or 8 that begin with 0003",
         ),
         Sort::Server => say(b"a server: 34 characters 0-9 a-f that begin with 01"),
         Sort::Entry => say(b"an entry: 20 characters 0-9 a-f that begin with 02"),
@@ -148,7 +148,7 @@ pub(crate) fn misshapen(s: Shape) {
     if first.unknown {
         number(b" names edition ", first.edition as usize);
         say(
-            b", which this program doesn't know: it is newer than the program, or there is none; editions 1 and 2 are known\n",
+            b", which this program doesn't know: it is newer than the program, or there is none; editions 1 to 3 are known\n",
         );
         return;
     }

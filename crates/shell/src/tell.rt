@@ -15,6 +15,13 @@ pub(crate) fn ill_formed(w: Walk) {
     match f {
         Fault::Nothing => say(b"no record is saved so"),
         Fault::Count => count(w),
+        Fault::NoSuchFollower(n) => {
+            number(b"line ", w.line);
+            number(b": server ", n);
+            number(b" is a follower, but there are ", w.count);
+            say(b" servers, numbered from 0");
+        }
+        Fault::Voters(n) => voters(w, n),
         Fault::Server(of) => {
             server(w);
             of_server(w.edition, w.count, of);
@@ -45,6 +52,13 @@ fn count(w: Walk) {
     number(b", and a cluster has ", cluster::FEWEST_SERVERS);
     number(b" to ", cluster::MOST_SERVERS);
     say(b" servers");
+}
+
+fn voters(w: Walk, n: usize) {
+    number(b"line ", w.line);
+    number(b": the servers that are no followers are ", n);
+    number(b", and at least ", cluster::FEWEST_VOTERS);
+    say(b" have to vote");
 }
 
 // Where a server's fault stands.
@@ -84,6 +98,7 @@ fn of_server(edition: u8, count: usize, of: OfServer) {
             number(b": its role is ", n as usize);
             say(b", and a role is 0 (secondary) or 1 (primary)");
         }
+        OfServer::Follower => say(b": it is a follower and primary, and a follower never is"),
         OfServer::NoTerm => say(b": it is primary in term 0, and a primary's term is at least 1"),
         OfServer::Commit(n, entries) => {
             number(b": its commit point is ", n);

@@ -11,7 +11,7 @@ fields kind a b set key number term time = record { kind = kind; a = a; b = b; s
 
 -- the fields that a step fills: kind, a, b, set or count, key, number, term, time
 abbrev pub frameFor : Step → Frame
-frameFor (Start a) = fields 0 a 0 0 0 0 0 zeroTime
+frameFor (Start a set) = fields 0 a 0 set 0 0 0 zeroTime
 frameFor (Elect a set) = fields 1 a 0 set 0 0 0 zeroTime
 frameFor (StepDown a) = fields 2 a 0 0 0 0 0 zeroTime
 frameFor (Hears a b) = fields 3 a b 0 0 0 0 zeroTime

@@ -8,8 +8,8 @@ use mail::Report;
 
 // One variant a kind, in the order of 01 and 02, holding just the fields that it uses, each as wide as on the wire.
 pub enum Step {
-    // a servers
-    Start(u8),
+    // a servers, the set of followers
+    Start(u8, u8),
     // a, set
     Elect(u8, u8),
     // a

@@ -40,9 +40,9 @@ fn same_server(i: usize, s: Server, t: Server, so_far: bool) -> bool {
     false
 }
 
-// Writes the new count where there is one, and each server that isn't as it was, or `same`.
+// Writes the new count and followers where they are new, and each server that isn't as it was, or `same`.
 pub(crate) fn changes(c: Cluster, d: Cluster) {
-    let mut same = say::same_count(c.count, d.count);
+    let mut same = say::same_size(c, d);
     let mut i: usize = 0;
     while i < cluster::MOST_SERVERS {
         let s = c.servers[i];

@@ -17,7 +17,7 @@ use cluster::Server;
 use log::Entry;
 
 // How many numbers there are in a line `fresh`, `server` and `entry`; `latest` and `told` have the other lines.
-const FRESH: usize = 1;
+const FRESH: usize = 2;
 
 pub(crate) const SERVER: usize = 8;
 
@@ -125,7 +125,7 @@ fn with_rows(counted: bool, s: Server, n: [usize; PLACES]) -> Server {
 pub(crate) fn changed(c: Cluster, line: &[u8], n: [usize; PLACES]) -> Cluster {
     let i = n[1];
     if n[0] == FRESH {
-        return cluster::fresh_cluster(i);
+        return cluster::fresh_cluster(i, byte(n[2]));
     }
     if cluster::MOST_SERVERS <= i {
         say::unknown(line);

@@ -2,6 +2,7 @@
 use crate::numbers::PLACES;
 use crate::record::ENTRY;
 use crate::record::SERVER;
+use cluster::Cluster;
 use cluster::Server;
 use libc::STDOUT_FILENO;
 use log::Entry;
@@ -39,12 +40,15 @@ pub(crate) fn answer(a: Answer) {
     line(&chars);
 }
 
-// The new server count where there is one; whether there is none.
-pub(crate) fn same_count(before: usize, after: usize) -> bool {
-    if before == after {
+// The new server count and the new followers where either is new; whether neither is.
+pub(crate) fn same_size(c: Cluster, d: Cluster) -> bool {
+    if c.count == d.count && c.followers == d.followers {
         return true;
     }
-    row(b"count", [1, after, 0, 0, 0, 0, 0, 0, 0]);
+    row(
+        b"count",
+        [2, d.count, d.followers as usize, 0, 0, 0, 0, 0, 0],
+    );
     false
 }
 

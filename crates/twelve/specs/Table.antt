@@ -17,7 +17,7 @@ use Rattle.mail.specs.Reports.{zeroNote}
 use Rattle.mail.specs.Mails.{zeroMail, withNotes}
 use Rattle.cluster.specs.declared.Server.{Server}
 use Rattle.cluster.specs.Servers.{mostServers, withHead, withLog, withMail, freshServer}
-use Rattle.cluster.specs.Sets.{isMajority}
+use Rattle.cluster.specs.Sets.{voters, isMajority}
 use Rattle.steps.specs.Refusals.{Rules, decided, refusalNumber}
 use Rattle.pairs.specs.Pulls.{pullRules}
 use Rattle.pairs.specs.RollsBack.{rollRules}
@@ -99,14 +99,14 @@ verdict rules = decided refusalNumber 0 rules
 
 -- what is expected is what the definitions give
 unfoldable pub rowHolds : Row → Bool
-rowHolds (majority m n b) = Bool·beq (isMajority m n) b
+rowHolds (majority m n b) = Bool·beq (isMajority m (voters n 0)) b
 rowHolds (before s t b) = Bool·beq (isBefore (timeOf s) (timeOf t)) b
 rowHolds (tick t wall u) = ticksTo (tickOf wall (timeOf t)) (timeOf u)
 rowHolds (write t wall n) = eqb (verdict (writeRules (writerOf (timeOf t) wall) 0 1 zeroTime)) n
 rowHolds (share xs ys n) = eqb (commonBeginning (live (logOf xs)) (live (logOf ys))) n
 rowHolds (pull xs ys n) = eqb (verdict (pullRules (secondaryOf xs) (secondaryOf ys))) n
 rowHolds (rollBack xs ys n) = eqb (verdict (rollRules (secondaryOf xs) (secondaryOf ys))) n
-rowHolds (passing h ns n) = eqb (highestPassing (length ns + 1) (leaderOf h ns) 0) n
+rowHolds (passing h ns n) = eqb (highestPassing (length ns + 1) 0 (leaderOf h ns) 0) n
 rowHolds (both r s) = rowHolds r && rowHolds s
 
 -- every row passes a test

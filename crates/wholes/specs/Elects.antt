@@ -9,8 +9,8 @@ use Rattle.log.specs.Entries.{lastTerm}
 use Rattle.log.specs.Logs.{live, lengthOf}
 use Rattle.cluster.specs.declared.Server.{Server}
 use Rattle.cluster.specs.declared.Cluster.{Cluster}
-use Rattle.cluster.specs.Servers.{serverCount, serverAt, electedAll}
-use Rattle.cluster.specs.Sets.{member, isWithin, isMajority}
+use Rattle.cluster.specs.Servers.{serverCount, voterCount, serverAt, electedAll}
+use Rattle.cluster.specs.Sets.{member, isWithin, isApart, votes, isMajority}
 use Rattle.steps.specs.declared.Outcome.{Outcome}
 use Rattle.steps.specs.declared.Answer.the-variants.{Elected}
 use Rattle.steps.specs.declared.Refusal.the-variants.{OutOfRange, ConditionUnmet, AtLimit}
@@ -35,12 +35,16 @@ voteOk s t m i = not (member m i) || mayVote s t
 unfoldable pub allMayVote : Cluster → Server → ℕ → Bool
 allMayVote c s m = every (serverCount c) (λ i. voteOk s (serverAt c i) m i)
 
--- the set is a majority and holds a; each member's term is not above a's, and a is not behind any member
+-- a and every member are servers that vote
+unfoldable pub areVoters : Cluster → ℕ → ℕ → Bool
+areVoters c a m =
+    ltb a (serverCount c) && (votes (c .followers) a && (isWithin m (serverCount c) && isApart m (c .followers)))
+
+-- the set is a majority of the voters and holds a; each member's term is not above a's, and a is not behind any member
 abbrev pub electRules : Cluster → ℕ → ℕ → Rules
 electRules c a m =
-    (ltb a (serverCount c), OutOfRange)
-    ∷ (isWithin m (serverCount c), OutOfRange)
-    ∷ (isMajority m (serverCount c), ConditionUnmet)
+    (areVoters c a m, OutOfRange)
+    ∷ (isMajority m (voterCount c), ConditionUnmet)
     ∷ (member m a, ConditionUnmet)
     ∷ (allMayVote c (serverAt c a) m, ConditionUnmet)
     ∷ (ltb (serverAt c a .head .term) limit, AtLimit)

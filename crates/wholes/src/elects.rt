@@ -1,6 +1,6 @@
 // Kind 1: elect a by set.
 ghost use mathlib.Core.Path.{_≡_};
-ghost use Rattle.wholes.specs.Elects.{notBehind, mayVote, voteOk, allMayVote, electsOf};
+ghost use Rattle.wholes.specs.Elects.{notBehind, mayVote, voteOk, allMayVote, areVoters, electsOf};
 use cluster::Cluster;
 use cluster::Server;
 use steps::Answer;
@@ -60,17 +60,32 @@ pub fn all_may_vote(c: Cluster, s: Server, set: u8) -> bool
     true
 }
 
-pub fn elects(c: Cluster, a: usize, set: u8) -> Outcome
-    ensures { λ r. ⌜ r ≡ electsOf c a set ⌝ }
+// Whether a and every member of the set are servers that vote.
+pub fn are_voters(c: Cluster, a: usize, set: u8) -> bool
+    ensures { λ r. ⌜ r ≡ areVoters c a set ⌝ }
 {
     let size = cluster::server_count(c.count);
     if size <= a {
-        return steps::refuse_all(c, Refusal::OutOfRange);
+        return false;
+    }
+    if !cluster::sets::does_vote(c.followers, a) {
+        return false;
     }
     if !cluster::sets::within(set, size) {
+        return false;
+    }
+    cluster::sets::apart(set, c.followers)
+}
+
+pub fn elects(c: Cluster, a: usize, set: u8) -> Outcome
+    ensures { λ r. ⌜ r ≡ electsOf c a set ⌝ }
+{
+    if !are_voters(c, a, set) {
         return steps::refuse_all(c, Refusal::OutOfRange);
     }
-    if !cluster::sets::majority(set, size) {
+    let size = cluster::server_count(c.count);
+    let voters = cluster::sets::voters(size, c.followers);
+    if !cluster::sets::majority(set, voters) {
         return steps::refuse_all(c, Refusal::ConditionUnmet);
     }
     if !cluster::sets::is_member(set, a) {

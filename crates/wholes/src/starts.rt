@@ -6,17 +6,14 @@ use steps::Answer;
 use steps::Outcome;
 use steps::Refusal;
 
-pub fn starts(c: Cluster, n: usize) -> Outcome
-    ensures { λ r. ⌜ r ≡ startsOf c n ⌝ }
+pub fn starts(c: Cluster, n: usize, followers: u8) -> Outcome
+    ensures { λ r. ⌜ r ≡ startsOf c n followers ⌝ }
 {
-    if n < cluster::FEWEST_SERVERS {
-        return steps::refuse_all(c, Refusal::OutOfRange);
-    }
-    if cluster::MOST_SERVERS < n {
+    if !cluster::size_ok(n, followers) {
         return steps::refuse_all(c, Refusal::OutOfRange);
     }
     Outcome {
-        cluster: cluster::fresh_cluster(n),
+        cluster: cluster::fresh_cluster(n, followers),
         answer: Answer::Done,
     }
 }

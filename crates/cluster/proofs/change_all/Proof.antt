@@ -11,13 +11,13 @@ use Rattle.cluster.proofs.change_all.Statement.{statement}
 use Rattle.cluster.proofs.change_all.Tie as tie
 
 abbrev Inv-loop : tie.InvT-loop
-Inv-loop change d₀ i₀ d i = (i ≤ 7) × (d .count ≡ d₀ .count) × (d .servers ≡ partly (changedOf change) 0 i (d₀ .servers))
+Inv-loop change d₀ i₀ d i = (i ≤ 7) × (d .count ≡ d₀ .count) × (d .followers ≡ d₀ .followers) × (d .servers ≡ partly (changedOf change) 0 i (d₀ .servers))
 
 abbrev μ-loop : tie.MeasureT-loop
 μ-loop change d₀ i₀ d i = 7 - i
 
 loop-holds : tie.Need-loop-holds Inv-loop μ-loop
-loop-holds c = (search needs, refl, partly-none _ _)
+loop-holds c = (search needs, refl, refl, partly-none _ _)
 
 mul-s : tie.Need-mul-s Inv-loop μ-loop
 mul-s c = search needs
@@ -44,13 +44,13 @@ loop-again : tie.Need-loop-again Inv-loop μ-loop
 loop-again c =
     let b = c .before .before .before in
     let h : length (b .before .args .c .servers) ≡ 7 = search (needs, mapped-long) in
-    (search needs, b .loop .inv .1, rw (c .change-one .ensures, b .loop .inv .2) (partly-more _ _ _ _ (omega arith)))
+    (search needs, b .loop .inv .1, b .loop .inv .2, rw (c .change-one .ensures, b .loop .inv .3) (partly-more _ _ _ _ (omega arith)))
 
 returns : tie.Need-returns Inv-loop μ-loop
 returns c =
     let h : length (c .before .before .args .c .servers) ≡ 7 = search (needs, mapped-long) in
-    let e = c .before .loop .inv .2 ∙ partly-all _ 0 _ _ (omega arith) in
-    λ i. record { count = c .before .loop .inv .1 i; servers = e i }
+    let e = c .before .loop .inv .3 ∙ partly-all _ 0 _ _ (omega arith) in
+    λ i. record { count = c .before .loop .inv .1 i; followers = c .before .loop .inv .2 i; servers = e i }
 
 pub change-all-spec : {M : Type 1} → statement M
 change-all-spec =

@@ -13,7 +13,7 @@ returns c =
     let k = c .before .args .c in
     let h : length (k .servers) ≡ 7 = search (needs, mapped-long) in
     let e = sym (set-out (k .servers) (c .before .args .i) (c .before .args .s) (omega arith)) in
-    λ i. record { count = k .count; servers = e i }
+    λ i. record { count = k .count; followers = k .followers; servers = e i }
 
 mul-s : tie.Need-mul-s
 mul-s c = search needs

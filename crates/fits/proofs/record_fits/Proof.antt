@@ -40,7 +40,7 @@ loop-again c = (search needs, below-more _ _ (c .before .before .before .loop .i
 returns : tie.Need-returns Inv-loop μ-loop
 returns c =
     let b = c .before in
-    (refl, record { count = search needs; slots = search (needs, mapped-long); each = λ i h. b .loop .inv .1 i (omega arith) })
+    (refl, record { count = search needs; followers = search needs; slots = search (needs, mapped-long); each = λ i h. b .loop .inv .1 i (omega arith) })
 
 pub record-fits-spec : {M : Type 1} → statement M
 record-fits-spec =

@@ -12,7 +12,7 @@ use Rattle.fits.proofs.step_fits.Reads as reads
 
 -- what owning a step tells, kind by kind
 fit : (s : Step) → fn.Kinds.GoodsP {n = 0} (tt {0}) ps (dens reads.Pre reads.Post (record { s = s })) → FitsStep s
-fit (Start a) g = search needs
+fit (Start a set) g = search needs
 fit (Elect a m) g = search needs
 fit (StepDown a) g = search needs
 fit (Hears a b) g = search needs

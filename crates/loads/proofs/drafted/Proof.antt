@@ -4,6 +4,7 @@ use Prim.Native.Nat.{_-_}
 use native.Mathlib.Omega.{arith}
 use lib.ListN.{length}
 use mathlib.Core.Logic.{⊎-elim}
+use Rattle.saved.specs.Editions.{editions, editionNumbered}
 use Rattle.loads.specs.declared.Draft.{Draft}
 use Rattle.loads.proofs.Lines.{Read, read-none, read-character, read-line, read-last, read-all}
 use borrow.Author.Needs.{needs}
@@ -11,16 +12,16 @@ use Rattle.loads.proofs.drafted.Statement.{statement}
 use Rattle.loads.proofs.drafted.Tie as tie
 
 abbrev Inv-loop : tie.InvT-loop
-Inv-loop text d₀ start₀ i₀ d start i = Read text d start i
+Inv-loop edition text d₀ start₀ i₀ d start i = Read (editionNumbered editions edition .widths) text d start i
 
 abbrev μ-loop : tie.MeasureT-loop
-μ-loop text d₀ start₀ i₀ d start i = length text - i
+μ-loop edition text d₀ start₀ i₀ d start i = length text - i
 
 fresh-draft-requires : tie.Need-fresh-draft-requires Inv-loop μ-loop
 fresh-draft-requires c κs = search needs
 
 loop-holds : tie.Need-loop-holds Inv-loop μ-loop
-loop-holds c = rw (c .fresh-draft .ensures) (read-none _)
+loop-holds c = rw (c .fresh-draft .ensures) (read-none _ _)
 
 shared-slice-read-if1 : tie.Need-shared-slice-read-if1 Inv-loop μ-loop
 shared-slice-read-if1 c = search needs

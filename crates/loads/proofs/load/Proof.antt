@@ -8,11 +8,9 @@ use Rattle.cluster.specs.declared.Cluster.{Cluster}
 use Rattle.steps.specs.declared.Outcome.{Outcome}
 use Rattle.steps.specs.declared.Refusal.the-variants.{NotAFrame, IllFormed}
 use Rattle.steps.specs.Answers.{refusingAll}
-use Rattle.saved.specs.Layout.{Widths}
-use Rattle.saved.specs.Editions.{widths1, editions, isKnown, editionNumbered, hasForm}
+use Rattle.saved.specs.Editions.{editions, isKnown, editionNumbered, hasForm}
 use Rattle.saved.specs.Saved.{savedAs}
 use Rattle.saved.specs.Shape.{namedBy, shaped}
-use Rattle.saved.proofs.Lawful.{both-same}
 use Rattle.shapes.specs.declared.Shape.{Shape}
 use Rattle.shapes.specs.Walk.{freshShape, walked, isShaped}
 use Rattle.shapes.proofs.Next.{reads-all}
@@ -41,14 +39,14 @@ module _ (c : Cluster) (text : List ℕ) where
   unfolding loadFor
   no-shape e = rw e
 
-  by-text : {n : ℕ} {d : Cluster} {b : Bool} → shaped text ≡ true → n ≡ namedBy text → d ≡ decodedIn widths1 text
+  by-text : {n : ℕ} {d : Cluster} {b : Bool} → shaped text ≡ true → n ≡ namedBy text → d ≡ decodedIn (editionNumbered editions n .widths) text
       → b ≡ (isKnown editions n && (hasForm (editionNumbered editions n) d && sameText (savedAs (editionNumbered editions n) d) text)) → cond b (loaded d) (refusingAll c IllFormed) ≡ loadOf c text
   unfolding loadFor
   by-text {n} {d} {b} e m p f =
       ap (λ (x : Bool). cond x (loaded d) (refusingAll c IllFormed)) f
       ∙ ap (λ (k : ℕ). gives (isKnown editions k) k d) m
       ∙ ap (λ (x : Bool). gives x (namedBy text) d) (shaped-known editions text e)
-      ∙ ap (gives true (namedBy text)) (p ∙ ap (λ (w : Widths). decodedIn w text) (sym (both-same (namedBy text))))
+      ∙ ap (gives true (namedBy text)) (p ∙ ap (λ (k : ℕ). decodedIn (editionNumbered editions k .widths) text) m)
       ∙ rw e (both (hasForm (editionNumbered editions (namedBy text)) _) (sameText (savedAs (editionNumbered editions (namedBy text)) _) text) (loaded _) (refusingAll c IllFormed))
     where
       gives : Bool → ℕ → Cluster → Outcome

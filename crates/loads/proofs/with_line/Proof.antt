@@ -1,6 +1,6 @@
 -- `loads::with_line` meets its contract. Assumes nothing.
 use mathlib.Core.Path.{ap, _∙_}
-use Rattle.saved.specs.Editions.{widths1}
+use Rattle.saved.specs.Editions.{editions, editionNumbered}
 use Rattle.loads.specs.Decoded.{withFrame}
 use borrow.Author.Needs.{needs}
 use Rattle.loads.proofs.with_line.Statement.{statement}
@@ -16,7 +16,7 @@ with-frame-requires : tie.Need-with-frame-requires
 with-frame-requires c κs = search needs
 
 returns : tie.Need-returns
-returns c = c .with-frame .ensures ∙ ap (withFrame widths1 (c .before .before .before .before .before .args .d)) (c .before .before .unhex .ensures)
+returns c = c .with-frame .ensures ∙ ap (withFrame (editionNumbered editions (c .before .before .before .before .before .args .edition) .widths) (c .before .before .before .before .before .args .d)) (c .before .before .unhex .ensures)
 
 pub with-line-spec : {M : Type 1} → statement M
 with-line-spec =

@@ -29,7 +29,7 @@ returns-2 c =
     let g = c .before .before .sends .given in
     let h : length (x .servers) ≡ 7 = search (needs, mapped-long) in
     let e = set-out (x .servers) (g .0 .0) (withMail (serverAt x (g .0 .0)) (received (serverAt x (g .0 .0) .mail) (g .0 .1 .0))) (omega arith) in
-    sym (ap (delivered x) (g .1) ∙ (λ i. record { count = x .count; servers = e i }))
+    sym (ap (delivered x) (g .1) ∙ (λ i. record { count = x .count; followers = x .followers; servers = e i }))
 
 mul-t : tie.Need-mul-t
 mul-t c = search needs

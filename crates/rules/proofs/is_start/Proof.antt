@@ -18,7 +18,7 @@ abbrev others : List ℕ
 others = 1 ∷ 2 ∷ 3 ∷ 4 ∷ 5 ∷ 6 ∷ 7 ∷ 8 ∷ 9 ∷ 10 ∷ 11 ∷ 12 ∷ 13 ∷ 14 ∷ 15 ∷ 16 ∷ []
 
 no-start : (s : Step) → OneOf others (tagOf the-type s) → false ≡ isStart s
-no-start (Start a) h = absurd (miss others 0 tt h)
+no-start (Start a set) h = absurd (miss others 0 tt h)
 no-start (Elect a set) h = refl
 no-start (StepDown a) h = refl
 no-start (Hears a b) h = refl

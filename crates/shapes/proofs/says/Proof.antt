@@ -1,7 +1,6 @@
 -- `shapes::says` meets its contract. Assumes nothing.
-use mathlib.Core.Path.{sym, ap, _∙_}
+use mathlib.Core.Path.{sym, _∙_}
 use borrow.Author.Tests.{eq-eqb, ne-eqb}
-use Rattle.saved.specs.Editions.{editions, isKnown}
 use borrow.Author.Needs.{needs}
 use Rattle.shapes.proofs.says.Statement.{statement}
 use Rattle.shapes.proofs.says.Tie as tie
@@ -15,25 +14,11 @@ sort-number-requires c κs = search needs
 returns : tie.Need-returns
 returns c = let n = c .before .sort-number in rw (ne-eqb _ _ (λ e. c .if1 .taken (e ∙ sym (n .ensures))))
 
-edition-for-requires : tie.Need-edition-for-requires
-edition-for-requires c κs = search needs
-
 is-known-requires : tie.Need-is-known-requires
 is-known-requires c κs = search needs
 
 returns-2 : tie.Need-returns-2
-returns-2 c =
-    let d = c .before .before in
-    let n = d .before .sort-number in
-    c .is-known .ensures ∙ ap (isKnown editions) (c .before .edition-for .ensures) ∙ sym (rw (eq-eqb _ _ (d .if1 .left ∙ n .ensures)))
+returns-2 c = let d = c .before in c .is-known .ensures ∙ sym (rw (eq-eqb _ _ (d .if1 .left ∙ d .before .sort-number .ensures)))
 
 pub says-spec : {M : Type 1} → statement M
-says-spec =
-    tie.close
-    (tie.spec
-    array-read-if1
-    sort-number-requires
-    returns
-    edition-for-requires
-    is-known-requires
-    returns-2)
+says-spec = tie.close (tie.spec array-read-if1 sort-number-requires returns is-known-requires returns-2)

@@ -1,5 +1,5 @@
 -- `counts::advances::advances` meets its contract. Assumes nothing.
-use Rattle.counts.specs.Advances.{highestPassing, committedOf, advanceRules, advanceDone}
+use Rattle.counts.specs.Advances.{reachedBy, committedOf, advanceRules, advanceDone}
 use Rattle.steps.specs.Reasons.{here, later}
 use Rattle.steps.proofs.Decided.{decided-clear, decided-broken}
 use Rattle.steps.specs.Answers.{refusingAll}
@@ -24,8 +24,8 @@ in-range c = lt-ltb (c .before .before .args .a) (serverCount (c .before .before
 primary : (c : tie.Else2) → serverAt (c .before .before .before .before .before .args .t1) (c .before .before .before .before .before .args .a) .head .primary ≡ true
 primary c = not-false (serverAt (c .before .before .before .before .before .args .t1) (c .before .before .before .before .before .args .a) .head .primary) (c .if2 .left)
 
-found : (c : tie.Else3) → leb 1 (highestPassing (serverCount (c .before .before .before .before .before .before .before .args .t1)) (serverAt (c .before .before .before .before .before .before .before .args .t1) (c .before .before .before .before .before .before .before .args .a)) (c .before .before .before .before .before .before .before .args .a)) ≡ true
-found c = le-leb 1 (highestPassing (serverCount (c .before .before .before .before .before .before .before .args .t1)) (serverAt (c .before .before .before .before .before .before .before .args .t1) (c .before .before .before .before .before .before .before .args .a)) (c .before .before .before .before .before .before .before .args .a)) (omega (arith, c .before .highest-passing .ensures))
+found : (c : tie.Else3) → leb 1 (reachedBy (c .before .before .before .before .before .before .before .args .t1) (c .before .before .before .before .before .before .before .args .a)) ≡ true
+found c = le-leb 1 (reachedBy (c .before .before .before .before .before .before .before .args .t1) (c .before .before .before .before .before .before .before .args .a)) (omega (arith, c .before .highest-passing .ensures))
 
 server-count-requires : tie.Need-server-count-requires
 server-count-requires c κs = search needs
@@ -63,7 +63,7 @@ refuse-all-requires-3 c κs = search needs
 returns-3 : tie.Need-returns-3
 returns-3 c =
     let b = c .before .before .before .before .before .before .before .before .args in
-    let no : leb 1 (highestPassing (serverCount (b .t1)) (serverAt (b .t1) (b .a)) (b .a)) ≡ false = lt-leb 1 (highestPassing (serverCount (b .t1)) (serverAt (b .t1) (b .a)) (b .a)) (omega (arith, c .before .before .highest-passing .ensures)) in
+    let no : leb 1 (reachedBy (b .t1) (b .a)) ≡ false = lt-leb 1 (reachedBy (b .t1) (b .a)) (omega (arith, c .before .before .highest-passing .ensures)) in
     c .refuse-all3 .ensures ∙ sym (decided-broken (refusingAll (b .t1)) (advanceDone (b .t1) (b .a)) {rs = advanceRules (b .t1) (b .a)}
     (later (in-range (c .before .before .before .before .before .before)) (later (primary (c .before .before .before)) (here no))))
 

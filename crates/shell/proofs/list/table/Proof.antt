@@ -32,6 +32,9 @@ mul-s c = search needs
 element-copy-out-s : tie.Need-element-copy-out-s Inv-loop μ-loop
 element-copy-out-s c = search needs
 
+does-vote-requires : tie.Need-does-vote-requires Inv-loop μ-loop
+does-vote-requires c κs = search needs
+
 server-requires : tie.Need-server-requires Inv-loop μ-loop
 server-requires c κs = search needs
 
@@ -66,6 +69,7 @@ table-spec =
     loop-holds
     mul-s
     element-copy-out-s
+    does-vote-requires
     server-requires
     add-i
     loop-less

@@ -10,8 +10,8 @@ Inv-loop c d same₀ i₀ same i = i ≤ 7
 abbrev μ-loop : tie.MeasureT-loop
 μ-loop c d same₀ i₀ same i = 7 - i
 
-same-count-requires : tie.Need-same-count-requires Inv-loop μ-loop
-same-count-requires c κs = search needs
+same-size-requires : tie.Need-same-size-requires Inv-loop μ-loop
+same-size-requires c κs = search needs
 
 loop-holds : tie.Need-loop-holds Inv-loop μ-loop
 loop-holds c = search needs
@@ -52,7 +52,7 @@ changes-spec =
     (tie.spec
     Inv-loop
     μ-loop
-    same-count-requires
+    same-size-requires
     loop-holds
     mul-s
     element-copy-out-s

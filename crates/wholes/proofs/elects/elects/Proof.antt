@@ -1,120 +1,132 @@
 -- `wholes::elects::elects` meets its contract. Assumes nothing.
-use Rattle.wholes.specs.Elects.{allMayVote, newTerm, electRules, electDone}
-use Rattle.steps.specs.Reasons.{here, later}
+use Rattle.wholes.specs.Elects.{allMayVote, areVoters, newTerm, electRules, electDone, electsOf}
+use Rattle.wholes.proofs.Voting.{taking}
+use Rattle.steps.specs.Reasons.{Clear, Broken, here, later}
 use Rattle.steps.proofs.Decided.{decided-clear, decided-broken}
 use Rattle.steps.specs.Answers.{refusingAll}
 use Rattle.steps.specs.declared.Answer.the-variants.{Elected}
 use Rattle.steps.specs.declared.Outcome.{Outcome}
-use Rattle.cluster.specs.Sets.{member, isWithin, isMajority}
-use Rattle.cluster.specs.Servers.{serverAt, serverCount}
+use Rattle.steps.specs.declared.Refusal.{Refusal}
+use Rattle.cluster.specs.declared.Cluster.{Cluster}
+use Rattle.cluster.specs.Sets.{member, voters, isMajority}
+use Rattle.cluster.specs.Servers.{serverAt, serverCount, voterCount}
 use Rattle.clock.specs.Times.{limit}
 use Rattle.base.proofs.Bools.{said-no, said-yes}
 use borrow.Author.Tests.{lt-ltb, le-ltb}
 use native.Mathlib.Omega.{arith}
-use lib.Dec.{ltb}
 use mathlib.Core.Bool.{true}
 use mathlib.Core.Path.{_≡_, ap, sym, _∙_}
+use Prim.Native.Nat.{ℕ, _<_}
 use borrow.Author.Needs.{needs}
 use Rattle.wholes.proofs.elects.elects.Statement.{statement}
 use Rattle.wholes.proofs.elects.elects.Tie as tie
 
+-- the first rule that is broken refuses, and where none is it is done
+refused : (c : Cluster) (a m : ℕ) {r : Refusal} {o : Outcome} → o ≡ refusingAll c r → Broken (electRules c a m) r → o ≡ electsOf c a m
+refused c a m e b = e ∙ sym (decided-broken (refusingAll c) (electDone c a m) b)
+
+elected : (c : Cluster) (a m : ℕ) {d : Cluster} → d ≡ electDone c a m .cluster → Clear (electRules c a m) → _≡_ {A = Outcome} (record { cluster = d; answer = Elected (newTerm c a) }) (electsOf c a m)
+elected c a m e k =
+    let o : _≡_ {A = Outcome} (record { cluster = _; answer = Elected (newTerm c a) }) (electDone c a m) = λ i. record { cluster = e i; answer = Elected (newTerm c a) } in
+    o ∙ sym (decided-clear (refusingAll c) (electDone c a m) (electRules c a m) k)
+
 -- what has passed at each place
-in-range : (c : tie.Else1) → ltb (c .before .before .args .a) (serverCount (c .before .before .args .t1)) ≡ true
-in-range c = lt-ltb (c .before .before .args .a) (serverCount (c .before .before .args .t1)) (omega (arith, c .before .server-count .ensures))
+voting : (c : tie.Else1) → areVoters (c .before .before .args .t1) (c .before .before .args .a) (c .before .before .args .set) ≡ true
+voting c = said-yes _ _ (c .before .are-voters .ensures) (c .if1 .left)
 
-within-is : (c : tie.After-within) → c .within .result ≡ isWithin (c .before .before .before .args .set) (serverCount (c .before .before .before .args .t1))
-within-is c = c .within .ensures ∙ ap (isWithin (c .before .before .before .args .set)) (c .before .before .server-count .ensures)
+majority-is : (c : tie.After-majority) → c .majority .result ≡ isMajority (c .before .before .before .before .before .args .set) (voterCount (c .before .before .before .before .before .args .t1))
+majority-is c =
+    let a = c .before .before .before .before .before .args in
+    c .majority .ensures ∙ ap (isMajority (a .set)) (c .before .voters .ensures ∙ ap (λ (n : ℕ). voters n (a .t1 .followers)) (c .before .before .server-count .ensures))
 
-inside : (c : tie.Else2) → isWithin (c .before .before .before .before .args .set) (serverCount (c .before .before .before .before .args .t1)) ≡ true
-inside c = said-yes _ _ (within-is (c .before)) (c .if2 .left)
+most : (c : tie.Else2) → isMajority (c .before .before .before .before .before .before .args .set) (voterCount (c .before .before .before .before .before .before .args .t1)) ≡ true
+most c = said-yes _ _ (majority-is (c .before)) (c .if2 .left)
 
-majority-is : (c : tie.After-majority) → c .majority .result ≡ isMajority (c .before .before .before .before .before .args .set) (serverCount (c .before .before .before .before .before .args .t1))
-majority-is c = c .majority .ensures ∙ ap (isMajority (c .before .before .before .before .before .args .set)) (c .before .before .before .before .server-count .ensures)
+holds : (c : tie.Else3) → member (c .before .before .before .before .before .before .before .before .args .set) (c .before .before .before .before .before .before .before .before .args .a) ≡ true
+holds c = said-yes _ _ (c .before .is-member .ensures) (c .if3 .left)
 
-most : (c : tie.Else3) → isMajority (c .before .before .before .before .before .before .args .set) (serverCount (c .before .before .before .before .before .before .args .t1)) ≡ true
-most c = said-yes _ _ (majority-is (c .before)) (c .if3 .left)
+below : (c : tie.Else3) → c .before .before .before .before .before .before .before .before .args .a < serverCount (c .before .before .before .before .before .before .before .before .args .t1)
+below c = taking (voting (c .before .before .before .before .before .before)) .counted
 
-holds : (c : tie.Else4) → member (c .before .before .before .before .before .before .before .before .args .set) (c .before .before .before .before .before .before .before .before .args .a) ≡ true
-holds c = said-yes _ _ (c .before .is-member .ensures) (c .if4 .left)
+willing : (c : tie.Else4) → allMayVote (c .before .before .before .before .before .before .before .before .before .before .before .args .t1) (serverAt (c .before .before .before .before .before .before .before .before .before .before .before .args .t1) (c .before .before .before .before .before .before .before .before .before .before .before .args .a)) (c .before .before .before .before .before .before .before .before .before .before .before .args .set) ≡ true
+willing c = said-yes _ _ (c .before .all-may-vote .ensures) (c .if4 .left)
 
-willing : (c : tie.Else5) → allMayVote (c .before .before .before .before .before .before .before .before .before .before .before .args .t1) (serverAt (c .before .before .before .before .before .before .before .before .before .before .before .args .t1) (c .before .before .before .before .before .before .before .before .before .before .before .args .a)) (c .before .before .before .before .before .before .before .before .before .before .before .args .set) ≡ true
-willing c = said-yes _ _ (c .before .all-may-vote .ensures) (c .if5 .left)
-
-server-count-requires : tie.Need-server-count-requires
-server-count-requires c κs = search needs
+are-voters-requires : tie.Need-are-voters-requires
+are-voters-requires c κs = search needs
 
 refuse-all-requires : tie.Need-refuse-all-requires
 refuse-all-requires c κs = search needs
 
 returns : tie.Need-returns
 returns c =
-    let b = c .before .before .before .args in
-    c .refuse-all .ensures ∙ sym (decided-broken (refusingAll (b .t1)) (electDone (b .t1) (b .a) (b .set)) {rs = electRules (b .t1) (b .a) (b .set)}
-    (here (le-ltb (b .a) (serverCount (b .t1)) (omega (arith, c .before .before .server-count .ensures)))))
+    let a = c .before .before .before .args in
+    refused (a .t1) (a .a) (a .set) (c .refuse-all .ensures) (here (said-no _ _ (c .before .before .are-voters .ensures) (c .before .if1 .taken)))
 
-within-requires : tie.Need-within-requires
-within-requires c κs = search needs
+server-count-requires : tie.Need-server-count-requires
+server-count-requires c κs = search needs
+
+voters-requires : tie.Need-voters-requires
+voters-requires c κs = search needs
+
+majority-requires : tie.Need-majority-requires
+majority-requires c κs = search needs
 
 refuse-all-requires-2 : tie.Need-refuse-all-requires-2
 refuse-all-requires-2 c κs = search needs
 
 returns-2 : tie.Need-returns-2
 returns-2 c =
-    let b = c .before .before .before .before .before .args in
-    c .refuse-all2 .ensures ∙ sym (decided-broken (refusingAll (b .t1)) (electDone (b .t1) (b .a) (b .set)) {rs = electRules (b .t1) (b .a) (b .set)}
-    (later (in-range (c .before .before .before)) (here (said-no _ _ (within-is (c .before .before)) (c .before .if2 .taken)))))
+    let m = c .before .before in
+    let v = m .before .before .before in
+    let a = v .before .before .args in
+    refused (a .t1) (a .a) (a .set) (c .refuse-all2 .ensures) (later (voting v) (here (said-no _ _ (majority-is m) (c .before .if2 .taken))))
 
-majority-requires : tie.Need-majority-requires
-majority-requires c κs = search needs
+is-member-requires : tie.Need-is-member-requires
+is-member-requires c κs = search needs
 
 refuse-all-requires-3 : tie.Need-refuse-all-requires-3
 refuse-all-requires-3 c κs = search needs
 
 returns-3 : tie.Need-returns-3
 returns-3 c =
-    let b = c .before .before .before .before .before .before .before .args in
-    c .refuse-all3 .ensures ∙ sym (decided-broken (refusingAll (b .t1)) (electDone (b .t1) (b .a) (b .set)) {rs = electRules (b .t1) (b .a) (b .set)}
-    (later (in-range (c .before .before .before .before .before)) (later (inside (c .before .before .before)) (here (said-no _ _ (majority-is (c .before .before)) (c .before .if3 .taken))))))
+    let p = c .before .before .before in
+    let v = p .before .before .before .before in
+    let a = v .before .before .args in
+    refused (a .t1) (a .a) (a .set) (c .refuse-all3 .ensures) (later (voting v) (later (most p) (here (said-no _ _ (c .before .before .is-member .ensures) (c .before .if3 .taken)))))
 
-is-member-requires : tie.Need-is-member-requires
-is-member-requires c κs = search needs
+mul-s : tie.Need-mul-s
+mul-s c = let h = below c in search needs
+
+element-copy-out-s : tie.Need-element-copy-out-s
+element-copy-out-s c = omega (arith, below c)
+
+all-may-vote-requires : tie.Need-all-may-vote-requires
+all-may-vote-requires c κs = search needs
 
 refuse-all-requires-4 : tie.Need-refuse-all-requires-4
 refuse-all-requires-4 c κs = search needs
 
 returns-4 : tie.Need-returns-4
 returns-4 c =
-    let b = c .before .before .before .before .before .before .before .before .before .args in
-    c .refuse-all4 .ensures ∙ sym (decided-broken (refusingAll (b .t1)) (electDone (b .t1) (b .a) (b .set)) {rs = electRules (b .t1) (b .a) (b .set)}
-    (later (in-range (c .before .before .before .before .before .before .before)) (later (inside (c .before .before .before .before .before)) (later (most (c .before .before .before)) (here (said-no _ _ (c .before .before .is-member .ensures) (c .before .if4 .taken)))))))
-
-mul-s : tie.Need-mul-s
-mul-s c = search (needs, c .before .before .before .before .before .before .before .server-count .ensures)
-
-element-copy-out-s : tie.Need-element-copy-out-s
-element-copy-out-s c = omega (arith, c .before .before .before .before .before .before .before .server-count .ensures)
-
-all-may-vote-requires : tie.Need-all-may-vote-requires
-all-may-vote-requires c κs = search needs
+    let h = c .before .before .before .before in
+    let p = h .before .before in
+    let v = p .before .before .before .before in
+    let a = v .before .before .args in
+    refused (a .t1) (a .a) (a .set) (c .refuse-all4 .ensures)
+    (later (voting v) (later (most p) (later (holds h) (here (said-no _ _ (c .before .before .all-may-vote .ensures) (c .before .if4 .taken))))))
 
 refuse-all-requires-5 : tie.Need-refuse-all-requires-5
 refuse-all-requires-5 c κs = search needs
 
 returns-5 : tie.Need-returns-5
 returns-5 c =
-    let b = c .before .before .before .before .before .before .before .before .before .before .before .before .args in
-    c .refuse-all5 .ensures ∙ sym (decided-broken (refusingAll (b .t1)) (electDone (b .t1) (b .a) (b .set)) {rs = electRules (b .t1) (b .a) (b .set)}
-    (later (in-range (c .before .before .before .before .before .before .before .before .before .before)) (later (inside (c .before .before .before .before .before .before .before .before)) (later (most (c .before .before .before .before .before .before)) (later (holds (c .before .before .before .before)) (here (said-no _ _ (c .before .before .all-may-vote .ensures) (c .before .if5 .taken))))))))
-
-refuse-all-requires-6 : tie.Need-refuse-all-requires-6
-refuse-all-requires-6 c κs = search needs
-
-returns-6 : tie.Need-returns-6
-returns-6 c =
-    let b = c .before .before .before .before .before .before .before .before .before .before .before .before .before .before .args in
-    c .refuse-all6 .ensures ∙ sym (decided-broken (refusingAll (b .t1)) (electDone (b .t1) (b .a) (b .set)) {rs = electRules (b .t1) (b .a) (b .set)}
-    (later (in-range (c .before .before .before .before .before .before .before .before .before .before .before .before)) (later (inside (c .before .before .before .before .before .before .before .before .before .before)) (later (most (c .before .before .before .before .before .before .before .before)) (later (holds (c .before .before .before .before .before .before)) (later (willing (c .before .before .before))
-    (here (le-ltb (serverAt (b .t1) (b .a) .head .term) limit (c .before .if6 .taken)))))))))
+    let w = c .before .before .before in
+    let h = w .before .before .before in
+    let p = h .before .before in
+    let v = p .before .before .before .before in
+    let a = v .before .before .args in
+    refused (a .t1) (a .a) (a .set) (c .refuse-all5 .ensures)
+    (later (voting v) (later (most p) (later (holds h) (later (willing w) (here (le-ltb (serverAt (a .t1) (a .a) .head .term) limit (c .before .if5 .taken)))))))
 
 add-term : tie.Need-add-term
 add-term c = search needs
@@ -122,36 +134,38 @@ add-term c = search needs
 elect-all-requires : tie.Need-elect-all-requires
 elect-all-requires c κs = search needs
 
-returns-7 : tie.Need-returns-7
-returns-7 c =
-    let b = c .before .before .before .before .before .before .before .before .before .before .before .before .before .before .before .args in
-    let o : _≡_ {A = Outcome} (record { cluster = c .elect-all .result; answer = Elected (newTerm (b .t1) (b .a)) }) (electDone (b .t1) (b .a) (b .set)) = λ i. record { cluster = c .elect-all .ensures i; answer = Elected (newTerm (b .t1) (b .a)) } in
-    o ∙ sym (decided-clear (refusingAll (b .t1)) (electDone (b .t1) (b .a) (b .set)) (electRules (b .t1) (b .a) (b .set))
-    (in-range (c .before .before .before .before .before .before .before .before .before .before .before .before .before), (inside (c .before .before .before .before .before .before .before .before .before .before .before), (most (c .before .before .before .before .before .before .before .before .before), (holds (c .before .before .before .before .before .before .before), (willing (c .before .before .before .before), (lt-ltb (serverAt (b .t1) (b .a) .head .term) limit (c .before .before .if6 .left), tt)))))))
+returns-6 : tie.Need-returns-6
+returns-6 c =
+    let w = c .before .before .before .before in
+    let h = w .before .before .before in
+    let p = h .before .before in
+    let v = p .before .before .before .before in
+    let a = v .before .before .args in
+    elected (a .t1) (a .a) (a .set) (c .elect-all .ensures)
+    (voting v, (most p, (holds h, (willing w, (lt-ltb (serverAt (a .t1) (a .a) .head .term) limit (c .before .before .if5 .left), tt)))))
 
 pub elects-spec : {M : Type 1} → statement M
 elects-spec =
     tie.close
     (tie.spec
-    server-count-requires
+    are-voters-requires
     refuse-all-requires
     returns
-    within-requires
+    server-count-requires
+    voters-requires
+    majority-requires
     refuse-all-requires-2
     returns-2
-    majority-requires
+    is-member-requires
     refuse-all-requires-3
     returns-3
-    is-member-requires
-    refuse-all-requires-4
-    returns-4
     mul-s
     element-copy-out-s
     all-may-vote-requires
+    refuse-all-requires-4
+    returns-4
     refuse-all-requires-5
     returns-5
-    refuse-all-requires-6
-    returns-6
     add-term
     elect-all-requires
-    returns-7)
+    returns-6)
