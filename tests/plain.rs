@@ -1,20 +1,25 @@
 //! The plain program: step lines in, answer lines out, one for each. `plain --help` tells the use;
 //! sessions that are answered in its tests are in `plain_tests.rs`.
 
+mod answers;
+mod frames;
 mod histories;
 mod lines;
 mod model;
+mod plan;
 mod records;
 mod saved;
 mod sights;
 mod tally;
 
+use answers::answer_line;
 use histories::{Verdict, check_text};
-use lines::{LINE, put_numbers, read_line, write_bytes};
+use lines::{LINE, read_line};
 use model::kinds::step_where;
-use model::{Answer, Cluster, Numbers, Step, step};
+use model::{Answer, Cluster, Step, step};
+use plan::{plan, text_of};
 use records::Covered;
-use saved::{Refusal, load, save};
+use saved::{load, save};
 use std::fs;
 use std::io::{self, BufRead, BufReader, BufWriter, ErrorKind, Write};
 use std::process::ExitCode;
@@ -28,6 +33,10 @@ plain < steps            writes one answer line for each step line
     --save FILE          after that, saves its record there
     --trust              looks at its record before a step only to see whether there was a start:
                          it has made or loaded that record itself
+    --recover KEY VALUE  writes instead the step lines that get its record going again: after them
+                         one server is primary in the highest term, all have its log, which ends in
+                         a write of that key and value, and every commit point covers it; --save may
+                         not stand beside it
 plain --tally < steps    writes instead how often each kind was done and how often each condition
                          of its refusals was the one that refused; exits 1 and names them where
                          something that lines can reach never occurred
@@ -38,16 +47,13 @@ plain --check PHONES < steps
                          standard error where there was more than one start
 plain --help             writes this
 
-A record that can't be loaded or saved is refused: the refusal's number is written to standard error
-and the exit status is 1. Where a load is refused nothing is answered; nothing is saved either way.
+A record that can't be loaded, saved or got going again is refused: the refusal's number is written
+to standard error and the exit status is 1. Where a load is refused nothing is answered; nothing is
+saved either way, and no step line is written.
 ";
 
 /// One block of input or output.
 const BLOCK: usize = 1 << 16;
-/// The bytes of an answer frame.
-const ANSWER_FRAME: usize = 9;
-/// The characters of an answer line, its line feed too.
-const ANSWER_LINE: usize = 2 * ANSWER_FRAME + 1;
 
 fn main() -> ExitCode {
     let arguments: Vec<String> = std::env::args().skip(1).collect();
@@ -72,10 +78,12 @@ struct Options<'a> {
     load: Option<&'a str>,
     save: Option<&'a str>,
     trust: bool,
+    /// The key and the value of the write that gets the record going again.
+    recover: Option<(u8, u16)>,
 }
 
 impl<'a> Options<'a> {
-    /// Each at most once, in any order.
+    /// Each at most once, in any order; what gets a record going again isn't saved.
     fn read(mut arguments: &[&'a str]) -> Option<Options<'a>> {
         let mut options = Options::default();
         while let [option, rest @ ..] = arguments {
@@ -92,10 +100,14 @@ impl<'a> Options<'a> {
                     options.trust = true;
                     rest
                 }
+                ("--recover", [key, value, rest @ ..]) if options.recover.is_none() => {
+                    options.recover = Some((key.parse().ok()?, value.parse().ok()?));
+                    rest
+                }
                 _ => return None,
             };
         }
-        Some(options)
+        if options.save.and(options.recover).is_some() { None } else { Some(options) }
     }
 }
 
@@ -104,36 +116,63 @@ fn write_run(options: &Options) -> io::Result<ExitCode> {
     Ok(match run(options, standard_input(), &mut output)? {
         Ok(()) => ExitCode::SUCCESS,
         Err(refusal) => {
-            eprintln!("{}", refusal.number());
+            eprintln!("{refusal}");
             ExitCode::FAILURE
         }
     })
 }
 
-/// From the record that is loaded to the record that is saved; either may be refused.
+/// From the record that is loaded to the record that is saved, or to the steps that get it going
+/// again; each may be refused, and then the refusal's number is given.
 fn run(
     options: &Options,
     input: impl BufRead,
     output: &mut impl Write,
-) -> io::Result<Result<(), Refusal>> {
+) -> io::Result<Result<(), u8>> {
     let begun = match options.load {
         Some(file) => load(&fs::read(file)?),
         None => Ok(Cluster::ZERO),
     };
     let mut cluster = match begun {
         Ok(cluster) => cluster,
-        Err(refusal) => return Ok(Err(refusal)),
+        Err(refusal) => return Ok(Err(refusal.number())),
     };
-    if options.trust {
-        answer_lines(&mut cluster, trusting_step, input, output)?;
-    } else {
-        answer_lines(&mut cluster, step, input, output)?;
+    if let Some(write) = options.recover {
+        take_lines(options, &mut cluster, input, &mut io::sink())?;
+        return write_plan(&cluster, write, output);
     }
+    take_lines(options, &mut cluster, input, output)?;
     output.flush()?;
     match options.save.map(|file| (file, save(&cluster))) {
         Some((file, Ok(text))) => fs::write(file, text).map(Ok),
-        Some((_, Err(refusal))) => Ok(Err(refusal)),
+        Some((_, Err(refusal))) => Ok(Err(refusal.number())),
         None => Ok(Ok(())),
+    }
+}
+
+/// The steps that get a record going again, unless they are refused.
+fn write_plan(
+    cluster: &Cluster,
+    (key, value): (u8, u16),
+    output: &mut impl Write,
+) -> io::Result<Result<(), u8>> {
+    match plan(cluster, key, value) {
+        Ok(steps) => output.write_all(&text_of(&steps))?,
+        Err(refusal) => return Ok(Err(refusal)),
+    }
+    output.flush().map(Ok)
+}
+
+fn take_lines(
+    options: &Options,
+    cluster: &mut Cluster,
+    input: impl BufRead,
+    output: &mut impl Write,
+) -> io::Result<()> {
+    if options.trust {
+        answer_lines(cluster, trusting_step, input, output)
+    } else {
+        answer_lines(cluster, step, input, output)
     }
 }
 
@@ -206,18 +245,6 @@ fn answer_lines(
         let answer = read_line(line).and_then(|read| take(cluster, &read));
         output.write_all(&answer_line(answer))
     })
-}
-
-fn answer_line(answer: Answer) -> [u8; ANSWER_LINE] {
-    let (refusal, numbers) = match answer {
-        Ok(numbers) => (0, numbers),
-        Err(condition) => (condition.number(), Numbers::NONE),
-    };
-    let mut frame = [refusal; ANSWER_FRAME];
-    put_numbers(&mut frame[1..], &numbers);
-    let mut line = [b'\n'; ANSWER_LINE];
-    write_bytes(&mut line, &frame);
-    line
 }
 
 /// The kept part of a line: one byte more than a frame's, so that a longer line shows as longer.

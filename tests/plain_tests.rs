@@ -271,13 +271,36 @@ fn before_the_first_start() {
 #[test]
 fn options_come_in_any_order_and_once() {
     let read = |line: &'static str| Options::read(&line.split_whitespace().collect::<Vec<_>>());
-    let asked = |load, save, trust| Some(Options { load, save, trust });
+    let asked = |load, save, trust| Some(Options { load, save, trust, recover: None });
     assert_eq!(read(""), asked(None, None, false));
     assert_eq!(read("--trust"), asked(None, None, true));
     assert_eq!(read("--load a --save b"), asked(Some("a"), Some("b"), false));
     assert_eq!(read("--save a --trust --load a"), asked(Some("a"), Some("a"), true));
     assert_eq!(read("--load --save"), asked(Some("--save"), None, false));
     let wrong = ["--load", "--save", "--load a --load a", "--save a b", "--trust --trust", "a"];
+    assert!(wrong.iter().all(|line| read(line).is_none()));
+}
+
+#[test]
+fn a_record_is_got_going_again_by_a_key_and_a_value_and_not_saved() {
+    let read = |line: &'static str| Options::read(&line.split_whitespace().collect::<Vec<_>>());
+    let asked =
+        |load, trust, write| Some(Options { load, trust, recover: Some(write), save: None });
+    assert_eq!(read("--recover 5 50"), asked(None, false, (5, 50)));
+    assert_eq!(read("--trust --recover 16 0 --load a"), asked(Some("a"), true, (16, 0)));
+    assert_eq!(read("--load a --recover 255 65535"), asked(Some("a"), false, (255, 65_535)));
+    let wrong = [
+        "--recover",
+        "--recover 5",
+        "--recover 5 x",
+        "--recover -1 1",
+        "--recover 256 1",
+        "--recover 5 65536",
+        "--recover 5 50 6",
+        "--recover 5 50 --recover 5 50",
+        "--recover 5 50 --save a",
+        "--save a --load a --recover 5 50",
+    ];
     assert!(wrong.iter().all(|line| read(line).is_none()));
 }
 
@@ -297,11 +320,11 @@ fn a_record_is_loaded_first_and_saved_last_or_refused() {
     let ran = |load: bool, text: &str, steps: &str| {
         fs::write(file, text).unwrap();
         let load = if load { Some(file) } else { None };
-        let options = Options { load, save: Some(file), trust: false };
+        let options = Options { load, save: Some(file), ..Options::default() };
         let mut output = Vec::new();
         let ended = run(&options, steps.as_bytes(), &mut output).unwrap();
         let answers = String::from_utf8(output).unwrap();
-        (ended.map_err(Refusal::number), answers, fs::read_to_string(file).unwrap())
+        (ended, answers, fs::read_to_string(file).unwrap())
     };
     let ended = |answers: &str, text: &str| (Ok(()), answers.to_string(), text.to_string());
     let refused = |n, answers: &str, text: &str| (Err(n), answers.to_string(), text.to_string());
@@ -321,6 +344,69 @@ fn a_record_is_loaded_first_and_saved_last_or_refused() {
     let alone = record(1).replacen("00030200", "00030202", 1);
     assert_eq!(ran(true, &alone, &begins), refused(2, "", &alone));
     assert_eq!(ran(false, "old", TICK), refused(2, "020000000000000000\n", "old"));
+    fs::remove_file(file).unwrap();
+}
+
+/// What a run that may load a file writes to get its record going again, or the refusal.
+fn recovers(load: Option<&str>, write: (u8, u16), steps: &str) -> Result<String, u8> {
+    let written = [false, true].map(|trust| {
+        let options = Options { load, trust, recover: Some(write), save: None };
+        let mut output = Vec::new();
+        let ended = run(&options, steps.as_bytes(), &mut output).unwrap();
+        assert!(ended.is_ok() || output.is_empty());
+        ended.map(|()| String::from_utf8(output).unwrap())
+    });
+    assert_eq!(written[0], written[1]);
+    written[0].clone()
+}
+
+/// Server 0 was overtaken and has an entry that nobody else has; server 1 has won in term 2.
+#[test]
+fn a_plan_is_written_in_the_place_of_answers() {
+    let newest = include_str!("../samples/newest");
+    let steps = [
+        "01010007",
+        "06010000050032",
+        "050001",
+        "040201",
+        "1001",
+        "1001",
+        "0701",
+        "030001",
+        "030201",
+    ];
+    let planned: String = steps.iter().map(|step| format!("{step:0<26}\n")).collect();
+    assert_eq!(recovers(None, (5, 50), newest), Ok(planned.clone()));
+    let whole = answers([newest, &planned].concat().as_bytes());
+    assert!(whole.lines().skip(newest.lines().count()).all(|answer| answer.starts_with("00")));
+    let junk = [newest, "x\n\n06010000050029000000000\n"].concat();
+    assert_eq!(recovers(None, (5, 50), &junk), Ok(planned));
+}
+
+#[test]
+fn a_refused_plan_is_a_number_and_no_lines() {
+    let start = "00020000000000000000000000\n";
+    let ticks = "08010000000000000000000000\n";
+    assert_eq!(recovers(None, (16, 0), ""), Err(2));
+    assert_eq!(recovers(None, (5, 50), ticks), Err(2));
+    assert_eq!(recovers(None, (16, 50), start), Err(3));
+    assert_eq!(recovers(None, (5, 0), start), Err(3));
+    let file = std::env::temp_dir().join(format!("plain-tests-plan-{}", std::process::id()));
+    let file = file.to_str().unwrap();
+    let server = |wall_clock| format!("0100000000000000000000{wall_clock:04x}00000000\n");
+    let record = |wall_clock| format!("00030200\n{}{}", server(1), server(wall_clock));
+    let loaded = |text: String, write, steps: &str| {
+        fs::write(file, text).unwrap();
+        recovers(Some(file), write, steps)
+    };
+    assert_eq!(loaded(record(65_535), (5, 50), ""), Err(7));
+    assert_eq!(loaded(record(65_535), (16, 50), ""), Err(3));
+    assert_eq!(loaded(record(65_534), (5, 50), ticks), Err(7));
+    assert_eq!(loaded(record(65_534), (5, 50), ""), recovers(None, (5, 50), start));
+    assert_eq!(loaded(record(65_535), (5, 50), start), recovers(None, (5, 50), start));
+    assert_eq!(loaded(record(0), (16, 50), start), Err(2));
+    assert_eq!(loaded("old".to_string(), (5, 50), start), Err(1));
+    assert!(recovers(None, (5, 50), start).is_ok());
     fs::remove_file(file).unwrap();
 }
 

@@ -70,12 +70,13 @@ use Rattle.cluster.specs.WellFormed.{sizeOk, wellFormed}
 use Rattle.cluster.proofs.Fresh.{well-formed-fresh, fits-fresh}
 use Rattle.steps.specs.declared.Answer.{Answer}
 use Rattle.steps.specs.declared.Answer.the-variants as A
+use Rattle.steps.specs.declared.Frame.{Frame}
 use Rattle.steps.specs.declared.Outcome.{Outcome}
 use Rattle.steps.specs.declared.Refusal.{Refusal}
 use Rattle.steps.specs.declared.Refusal.the-variants.{IllFormed, OutOfRange, Retired}
 use Rattle.steps.specs.declared.Step.{Step}
 use Rattle.steps.specs.declared.Telling.{Telling}
-use Rattle.steps.specs.Answers.{refusing, refusingAll}
+use Rattle.steps.specs.Answers.{refusing, refusingAll, isRefused}
 use Rattle.steps.specs.Ranges.{FitsStep}
 use Rattle.steps.specs.Reasons.{Clear, Broken, Applies, rankOf, here, later}
 use Rattle.steps.specs.Refusals.{decided}
@@ -95,9 +96,10 @@ use Rattle.rules.proofs.Stamped as stamped
 use Rattle.rules.proofs.Results as rules-results
 use Rattle.frames.specs.declared.ReadStep.{ReadStep}
 use Rattle.frames.specs.declared.ReadStep.the-variants as R
-use Rattle.frames.specs.Steps.{readStep, writeStep}
+use Rattle.frames.specs.Steps.{readStep, writeFrame, writeStep}
 use Rattle.frames.proofs.read_step.Reads as read-step-contract
 use Rattle.frames.proofs.write_step.Reads as write-step-contract
+use Rattle.frames.proofs.write_frame.Reads as write-frame-contract
 use Rattle.frames.proofs.Steps as frames
 use Rattle.frames.proofs.Results as frames-results
 use Rattle.answers.specs.declared.ReadAnswer.{ReadAnswer}
@@ -132,6 +134,9 @@ use Rattle.replay.proofs.Whole as whole
 use Rattle.replay.proofs.Parts as parts
 use Rattle.replay.proofs.Shown as shown
 use Rattle.replay.proofs.Results as replay-results
+use Rattle.orders.specs.declared.Ordered.{Ordered}
+use Rattle.orders.specs.Orders.{ordersIn}
+use Rattle.orders.proofs.orders_in.Reads as orders-in-contract
 use Rattle.shell.specs.declared.Drained.{Drained}
 use Rattle.shell.specs.Loop.{Drains}
 use Rattle.shell.proofs.Contracts as program
@@ -210,6 +215,16 @@ use Rattle.promises.proofs.RoofExample as roof
 use Rattle.promises.proofs.NewestExample as overtaken
 use Rattle.promises.proofs.StaleExample as stale
 use Rattle.promises.proofs.PhonesExample as phones
+use Rattle.plans.specs.declared.Planned.{Planned}
+use Rattle.plans.specs.Moves.{NoneRefused}
+use Rattle.plans.specs.Plan.{planFor}
+use Rattle.plans.specs.Making.{noFrames, plannedOf}
+use Rattle.plans.proofs.plan.Reads as plan-contract
+use Rattle.plans.proofs.Given as plans
+use Rattle.plans.proofs.Results as plans-results
+use Rattle.recovery.specs.Promise.{Recovers, RecoveryPromised, OnlyNine}
+use Rattle.recovery.proofs.Recovered as recovery
+use Rattle.recovery.proofs.Example as night
 use Rattle.twelve.specs.Table.{all, rowHolds, table}
 use Rattle.twelve.proofs.Twelve as twelve
 
@@ -303,6 +318,9 @@ read-step-is κs line r e = e
 pub write-step-is : (s : Step) (r : List ℕ) → write-step-contract.Learnt tt (s, tt) r (s, tt) → r ≡ writeStep s
 write-step-is s r e = e
 
+pub write-frame-is : (f : Frame) (r : List ℕ) → write-frame-contract.Learnt tt (f, tt) r (f, tt) → r ≡ writeFrame f
+write-frame-is f r e = e
+
 pub read-answer-is : (κs : Lfts 1) (line : RefT (List ℕ)) (r : ReadAnswer) → read-answer-contract.Learnt κs (line, tt) r (line, tt)
     → r ≡ readAnswer (now line)
 read-answer-is κs line r e = e
@@ -392,7 +410,11 @@ pub only-the-line-is-left : (c : Cluster) (r q : Reader) (text : List ℕ) → l
     → ended (runs (record { cluster = c; reader = r }) text) ≡ ended (runs (record { cluster = c; reader = q }) text)
 only-the-line-is-left = shown.only-line-left
 
--- the program's own functions do with a text of orders, a piece, a turn, a whole input, a text that is loaded and a run as ordered what their definitions say
+-- the orders are those of the text that was read, whatever it is
+pub orders-are : (κs : Lfts 1) (text : RefT (List ℕ)) (r : Ordered) → orders-in-contract.Learnt κs (text, tt) r (text, tt) → r ≡ ordersIn (now text)
+orders-are κs text r e = e
+
+-- the program's own functions do with a piece, a turn, a whole input, a text that is loaded and a run as ordered what their definitions say
 pub the-program-is-as-defined : program.ProgramIs
 the-program-is-as-defined = program.program-is
 
@@ -821,6 +843,37 @@ it-covers-build-41 = (stale.covered, stale.build-41)
 pub what-it-covers-is-kept : Kept stale.moment stale.end 0 1
 what-it-covers-is-kept = stale.kept
 
+-- ---- how to get going again
+
+-- the plan that is made is the one of the seven lines: their frames, or one refusal and none
+pub plan-is : (c : Cluster) (key value : ℕ) (r : Planned) → plan-contract.Learnt tt (c, (key, (value, tt))) r (c, (key, (value, tt))) → r ≡ plannedOf c key value
+plan-is c key value r e = e
+
+-- from any record at all, frames that are given are refused nowhere when they are run, and a refusal has no frames
+pub given-frames-are-done : (c : Cluster) (key value : ℕ) → plannedOf c key value .answer ≡ A.Done → NoneRefused c (planFor c key value)
+given-frames-are-done = plans.frames-done
+
+pub a-refusal-has-no-frames : (c : Cluster) (key value : ℕ) → isRefused (plannedOf c key value .answer) ≡ true
+    → plannedOf c key value ≡ noFrames (plannedOf c key value .answer)
+a-refusal-has-no-frames = plans.refused-empty
+
+-- from every record of a run it gets the cluster going, and from every well-formed one its steps are done, or the first that is refused gets 9
+pub a-cluster-gets-going : RecoveryPromised
+a-cluster-gets-going = recovery.recovery
+
+pub a-plan-is-refused-with-9-alone : OnlyNine
+a-plan-is-refused-with-9-alone = recovery.only-nine
+
+-- a bad night: two primaries, a log that has to be rolled back, and a follower that has nothing
+pub the-night-left-two-primaries : (serverAt night.left 0 .head .primary ≡ true) × (serverAt night.left 1 .head .primary ≡ true)
+the-night-left-two-primaries = night.two-primaries
+
+pub twelve-frames-are-given : (plannedOf night.left 5 50 .count ≡ 12) × (plannedOf night.left 5 50 .answer ≡ A.Done)
+twelve-frames-are-given = night.given
+
+pub the-night-is-over : Recovers night.left 5 50
+the-night-is-over = night.recovers
+
 -- ---- a contract decides its result
 
 -- any two results that a contract allows are equal, and so are the buffers that were lent: of the functions that a text goes through.
@@ -846,3 +899,6 @@ pour-decides = replay-results.pour
 
 pub close-decides : (κs : Lfts 1) (s : Session) (out : RefT (List ℕ)) → OneOutcome (λ r o. close-contract.Learnt κs (s, (out, tt)) r (s, (o, tt)))
 close-decides = replay-results.close
+
+pub plan-decides : (c : Cluster) (key value : ℕ) → OneResult (λ r. plan-contract.Learnt tt (c, (key, (value, tt))) r (c, (key, (value, tt))))
+plan-decides = plans-results.plan

@@ -2,6 +2,7 @@
 use mathlib.Core.Bool.{cond}
 use mathlib.Core.List.{List}
 use Prim.Native.Nat.{ℕ}
+use Rattle.steps.specs.declared.Frame.{Frame}
 use Rattle.steps.specs.declared.Step.{Step}
 use Rattle.steps.specs.Fields.{frameFor}
 use Rattle.hex.specs.Lines.{hexOf}
@@ -11,8 +12,11 @@ use Rattle.frames.specs.declared.ReadStep.the-variants.{NoFrame}
 use Rattle.frames.specs.Layout.{stepBytes, bytesOfFrame, frameOf}
 use Rattle.frames.specs.Kinds.{stepOfFrame, isClean}
 
+abbrev pub writeFrame : Frame → List ℕ
+writeFrame f = hexOf (bytesOfFrame f)
+
 abbrev pub writeStep : Step → List ℕ
-writeStep s = hexOf (bytesOfFrame (frameFor s))
+writeStep s = writeFrame (frameFor s)
 
 -- an unused byte that is not zero is no frame
 unfoldable pub stepIn : List ℕ → ReadStep

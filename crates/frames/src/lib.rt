@@ -3,7 +3,7 @@ ghost use mathlib.Core.Path.{_≡_};
 ghost use Rattle.steps.specs.Fields.{fields, frameFor};
 ghost use Rattle.frames.specs.Layout.{bytesOfFrame, frameOf};
 ghost use Rattle.frames.specs.Kinds.{stepOfFrame};
-ghost use Rattle.frames.specs.Steps.{stepIn, readStep, writeStep};
+ghost use Rattle.frames.specs.Steps.{stepIn, readStep, writeFrame, writeStep};
 use clock::Time;
 use clock::ZERO_TIME;
 use steps::Frame;
@@ -151,7 +151,7 @@ fn fields(kind: u8, a: u8, b: u8, set: u8, key: u8, number: u16, term: u16, time
 }
 
 // The fields that a step fills, all others zero.
-fn frame_for(s: Step) -> Frame
+pub fn frame_for(s: Step) -> Frame
     ensures { λ r. ⌜ r ≡ frameFor s ⌝ }
 {
     match s {
@@ -205,12 +205,19 @@ fn bytes_of_frame(f: Frame) -> [u8; STEP_BYTES]
     ]
 }
 
+// The characters of a frame.
+pub fn write_frame(f: Frame) -> [u8; STEP_CHARS]
+    ensures { λ r. ⌜ r ≡ writeFrame f ⌝ }
+{
+    let b = bytes_of_frame(f);
+    let mut out = [0u8; STEP_CHARS];
+    hex::enhex(&b, &mut out);
+    out
+}
+
 // The one frame of a step.
 pub fn write_step(s: Step) -> [u8; STEP_CHARS]
     ensures { λ r. ⌜ r ≡ writeStep s ⌝ }
 {
-    let b = bytes_of_frame(frame_for(s));
-    let mut out = [0u8; STEP_CHARS];
-    hex::enhex(&b, &mut out);
-    out
+    write_frame(frame_for(s))
 }

@@ -14,7 +14,6 @@ use Rattle.steps.specs.declared.Step.the-variants.{Start}
 use Rattle.steps.specs.Fields.{frameFor}
 use Rattle.steps.specs.Ranges.{FitsStep}
 use Rattle.wholes.specs.Starts.{startDone, Opening, freshOf}
-use Rattle.wholes.specs.Starts.{Opening, freshOf}
 use Rattle.rules.specs.Rules.{rowOf, isStart, stepOf}
 use Rattle.rules.proofs.Outcomes.{step-done}
 use Rattle.frames.specs.declared.ReadStep.{ReadStep}
@@ -68,7 +67,7 @@ text-lines [] = refl
 text-lines (comes s ∷ run) = hex-line (bytesOfFrame (frameFor s)) (unlines (linesFor run)) ∙ ap (λ (ls : List (List ℕ)). writeStep s ∷ ls) (text-lines run)
 text-lines (overnight d ∷ run) = text-lines run
 
-line-is : (c : Cluster) (s : Step) → FitsStep s → answerTo c (writeStep s) ≡ stepOf c s
+pub line-is : (c : Cluster) (s : Step) → FitsStep s → answerTo c (writeStep s) ≡ stepOf c s
 line-is c s f = answer-is c (writeStep s) s (read-written-step s f)
 
 start-is : (z : Opening) → answerTo zeroCluster (writeStep (Start (z .servers) (z .followers))) ≡ startDone (z .servers) (z .followers)

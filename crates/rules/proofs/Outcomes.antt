@@ -12,7 +12,7 @@ use Rattle.steps.specs.declared.Refusal.{Refusal}
 use Rattle.steps.specs.declared.Refusal.the-variants.{IllFormed}
 use Rattle.steps.specs.declared.Step.{Step}
 use Rattle.steps.specs.declared.Step.the-variants.{Start, Elect, StepDown, Hears, Pulls, RollsBack, Writes, Advances, WallClock, Restarts, LocalRead, MajorityRead, Acknowledged, ClocksAgree, WritesNothing, NewestRead, TakesReport}
-use Rattle.steps.specs.Answers.{refusingAll}
+use Rattle.steps.specs.Answers.{refusingAll, isRefused}
 use Rattle.steps.specs.Reasons.{Clear, Broken}
 use Rattle.steps.proofs.Decided.{clear-or-broken, decided-clear, decided-broken}
 use Rattle.rules.specs.Rules.{rowOf, rulesOf, doneOf, coreOf, isStart, stepOf}
@@ -52,14 +52,6 @@ step-cases c s = go (isStart s || wellFormed c) refl (clear-or-broken (rulesOf c
     go false e w = inr (record { refusal = IllFormed; why = ill-formed e; is = step-ill-formed c s e })
 
 -- ---- a refusal changes nothing
-
-abbrev pub isRefused : Answer → Bool
-isRefused A.Done = false
-isRefused (A.Elected term) = false
-isRefused (A.Reached n) = false
-isRefused (A.Entry n term time) = false
-isRefused (A.Value value time) = false
-isRefused (A.Refused r) = true
 
 -- what is done answers no refusal
 pub done-not-refused : (c : Cluster) (s : Step) → isRefused (doneOf c s .answer) ≡ false

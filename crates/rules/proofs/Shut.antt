@@ -28,11 +28,10 @@ use Rattle.steps.specs.declared.Step.{Step}
 use Rattle.steps.specs.declared.Step.the-variants.{Elect, Writes, LocalRead}
 use Rattle.steps.specs.declared.Telling.{Telling}
 use Rattle.steps.specs.declared.Telling.the-variants as T
-use Rattle.steps.specs.Answers.{tellingOf}
+use Rattle.steps.specs.Answers.{tellingOf, isRefused}
 use Rattle.singles.specs.Appends.{stampedOf}
 use Rattle.wholes.specs.Elects.{notBehind, mayVote, allMayVote, areVoters}
 use Rattle.rules.specs.Rules.{delivered, rowOf, coreOf, stepOf}
-use Rattle.rules.proofs.Outcomes.{isRefused}
 use Rattle.rules.specs.Statements.{Program, Differs, refusesEach, saysOne, leavesAll, echoesLater}
 
 -- ---- an election and two reads that are allowed

@@ -4,7 +4,7 @@ use mathlib.Core.Bool.{Bool, true, false}
 use Rattle.base.proofs.Bools.{not-both}
 use Rattle.cluster.specs.declared.Cluster.{Cluster}
 use Rattle.cluster.specs.Servers.{zeroCluster}
-use Rattle.shell.specs.declared.orders.Orders.{Orders}
+use Rattle.orders.specs.declared.Orders.{Orders}
 use Rattle.shell.specs.declared.saves.Led.{Led}
 use Rattle.shell.specs.Loop.{Answered}
 use Rattle.shell.specs.Saving.{led, Loads}

@@ -11,15 +11,12 @@ use Rattle.cluster.specs.declared.Cluster.{Cluster}
 use Rattle.replay.specs.declared.Session.{Session}
 use Rattle.lines.specs.Texts.{placed}
 use Rattle.replay.specs.Pieces.{says}
+use Rattle.orders.specs.declared.Orders.{Orders}
 use Rattle.shell.specs.declared.Drained.{Drained}
-use Rattle.shell.specs.declared.orders.Ordered.{Ordered}
-use Rattle.shell.specs.declared.orders.Orders.{Orders}
 use Rattle.shell.specs.declared.saves.Led.{Led}
 use Rattle.shell.specs.AsOrdered.{answersDue, isSavedBy, RunsBy}
 use Rattle.shell.specs.Loop.{Poured, Turned, Drains, Answered}
-use Rattle.shell.specs.Orders.{ordersIn}
 use Rattle.shell.specs.Saving.{Loads}
-use Rattle.shell.proofs.orders.orders_in.Reads as orders-in-reads
 use Rattle.shell.proofs.answers_due.Reads as answers-due-reads
 use Rattle.shell.proofs.pour.Reads as pour-reads
 use Rattle.shell.proofs.turn.Reads as turn-reads
@@ -30,8 +27,6 @@ use Rattle.shell.proofs.run_through.Reads as run-through-reads
 use Rattle.shell.proofs.is_saved.Reads as is-saved-reads
 
 pub record ProgramIs : Type 0 where
-  -- the orders are those of the text that was read, whatever it is
-  pub orders : (κs : Lfts 1) (text : RefT (List ℕ)) (r : Ordered) → orders-in-reads.Learnt κs (text, tt) r (text, tt) → r ≡ ordersIn (now text)
   -- of answers all is written, or nothing
   pub answers-due : (quiet : Bool) (n r : ℕ) → answers-due-reads.Learnt tt (quiet, (n, tt)) r (quiet, (n, tt)) → r ≡ answersDue quiet n
   -- a piece is answered whole, and its answers are in the buffer
@@ -53,7 +48,6 @@ pub record ProgramIs : Type 0 where
 pub program-is : ProgramIs
 program-is =
     record {
-      orders = λ κs text r e. e;
       answers-due = λ quiet n r e. e;
       pour = λ κs quiet s piece out o r e. e;
       turn = λ κs quiet s buffer got out o r e. e;

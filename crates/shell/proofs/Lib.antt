@@ -1,7 +1,5 @@
--- Laws over the program's orders, its loop and loading. Assumes nothing.
+-- Laws over the program's run as ordered, its loop and loading. Assumes nothing.
 pub mod AsOrdered
 pub mod Contracts
 pub mod Loop
-pub mod Ordered
-pub mod Results
 pub mod Saving

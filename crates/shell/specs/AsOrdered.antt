@@ -1,13 +1,17 @@
 -- What the program does as ordered, as far as a contract can say it: the record that its run begins with, how much of the answers is
 -- written, and whether the record is saved. Nobody has to believe this: it follows from the orders and from what is read. Assumes nothing.
 use mathlib.Core.Path.{_≡_}
-use mathlib.Core.Bool.{Bool, true, false, cond, _&&_}
+use mathlib.Core.Bool.{Bool, true, false, cond, _&&_, _||_}
 use Prim.Native.Nat.{ℕ}
 use Rattle.cluster.specs.Servers.{zeroCluster}
-use Rattle.shell.specs.declared.orders.Orders.{Orders}
+use Rattle.orders.specs.declared.Orders.{Orders}
 use Rattle.shell.specs.declared.saves.Led.{Led}
 use Rattle.shell.specs.Loop.{Answered}
 use Rattle.shell.specs.Saving.{led, Loads}
+
+-- a run is quiet where something else is written in the place of answers
+abbrev pub isQuietBy : Orders → Bool
+isQuietBy o = o .list || o .recover
 
 -- how many bytes are written of so many that answers have: none where the run is quiet
 abbrev pub answersDue : Bool → ℕ → ℕ

@@ -1,8 +1,8 @@
 // The whole program, thin over the proved libraries: its orders, step lines from standard input to its end, an answer line for each, and the
-// record loaded before, saved after, and listed in the place of answers. A program crate of one line calls `run`.
+// record loaded before, saved after, and in the place of answers listed, or planned for. A program crate of one line calls `run`.
 mod faults;
 mod list;
-pub mod orders;
+mod recover;
 mod saves;
 mod say;
 mod tell;
@@ -15,7 +15,7 @@ ghost use Rattle.lines.specs.Texts.{placed};
 ghost use Rattle.replay.specs.Pieces.{answerLine, says};
 ghost use Rattle.lines.specs.Turns.{mostPiece};
 ghost use Rattle.shell.specs.Loop.{closedBy, finishedBy, Poured, Turned, Drains, Finishes, Answered};
-ghost use Rattle.shell.specs.AsOrdered.{answersDue, isSavedBy, BeginsBy, RunsBy};
+ghost use Rattle.shell.specs.AsOrdered.{answersDue, isQuietBy, isSavedBy, BeginsBy, RunsBy};
 use cluster::Cluster;
 use libc::STDIN_FILENO;
 use libc::STDOUT_FILENO;
@@ -25,6 +25,8 @@ use orders::Ordered;
 use orders::Orders;
 use replay::Session;
 use saves::Led;
+
+const ORDERS_FILENO: i32 = 7;
 
 // Room for the answers to all that is read at once, even where every byte is a line.
 const ROOM: usize = PIECE * replay::ANSWER_LINE;
@@ -193,6 +195,13 @@ fn first_record(o: Orders) -> Led
     }
 }
 
+// Whether something else is written in the place of answers.
+fn is_quiet(o: Orders) -> bool
+    ensures { λ r. ⌜ r ≡ isQuietBy o ⌝ }
+{
+    o.list || o.recover
+}
+
 // A run as ordered: the record after it. Where there is none to begin with, nothing is read.
 fn run_through(o: Orders) -> Led
     ensures { λ r. ⌜ RunsBy o r ⌝ }
@@ -202,7 +211,7 @@ fn run_through(o: Orders) -> Led
         return l;
     }
     let c = l.cluster;
-    answered(o.list, c)
+    answered(is_quiet(o), c)
 }
 
 // Whether the record is saved.
@@ -212,7 +221,7 @@ fn is_saved(o: Orders, well: bool) -> bool
     o.save && well
 }
 
-// A run as ordered, and what is left of it: the table, and then the saved form, unless the table couldn't be written.
+// A run as ordered, and what is left of it: the table, the plan, and then the saved form, unless one before it couldn't be written.
 fn obey(o: Orders) {
     let l = run_through(o);
     let c = l.cluster;
@@ -220,15 +229,25 @@ fn obey(o: Orders) {
     if o.list && well {
         well = list::table(c);
     }
+    if o.recover && well {
+        well = recover::plan(c, o.key, o.value);
+    }
     if is_saved(o, well) {
         saves::store(c);
     }
 }
 
+// The orders that were given: none where the descriptor is closed. One byte more than the line has is read, by which a longer text is told.
+fn given() -> Ordered {
+    let mut text = [0; orders::ORDER_LINE + 1];
+    let n = io::read_full(ORDERS_FILENO, &mut text);
+    orders::orders_in(&text[..n])
+}
+
 // The program. What it reads and writes no contract can say.
 pub fn run() {
-    let given = orders::given();
-    match given {
+    let ordered = given();
+    match ordered {
         Ordered::Known(o) => obey(o),
         Ordered::Unknown => say::unknown_orders(),
     }

@@ -25,7 +25,7 @@ pub(crate) fn time(words: &[u8], t: Time) {
 
 pub(crate) fn unknown_orders() {
     say(
-        b"replay: nothing is done: descriptor 7 has orders that this program doesn't know; it knows a line of 00 to 07, or nothing at all\n",
+        b"replay: nothing is done: descriptor 7 has orders that this program doesn't know; it knows a line of 8 characters 0-9 a-f that begins with 0, or nothing at all\n",
     );
 }
 
@@ -37,7 +37,7 @@ pub(crate) fn cannot_write() {
 pub(crate) fn cannot_read(quiet: bool) {
     say(b"replay: standard input can't be read any further");
     if quiet {
-        say(b", so nothing is listed\n");
+        say(b", so nothing is made of them: no table, and no plan\n");
     } else {
         say(b"; the lines before are answered\n");
     }
@@ -59,6 +59,16 @@ pub(crate) fn nothing_to_list() {
 
 pub(crate) fn cannot_list() {
     say(b"replay: standard output can't be written, so the table breaks off here\n");
+}
+
+pub(crate) fn cannot_plan() {
+    say(b"replay: standard output can't be written, so the plan breaks off here\n");
+}
+
+// How every sentence on a plan that isn't made begins.
+pub(crate) fn no_plan(refusal: usize) {
+    number(b"replay: there is no plan (refusal ", refusal);
+    say(b"): ");
 }
 
 pub(crate) fn cannot_load() {

@@ -5,11 +5,12 @@ use Rattle.cluster.specs.declared.Cluster.{Cluster}
 use Rattle.cluster.specs.declared.Server.{Server}
 use Rattle.steps.specs.declared.Answer.{Answer}
 use Rattle.steps.specs.declared.Refusal.{Refusal}
-use Rattle.steps.specs.Answers.{numberOf, refusing, refusingAll, tellingOf}
+use Rattle.steps.specs.Answers.{numberOf, refusing, refusingAll, tellingOf, isRefused}
 use Rattle.steps.proofs.refuse.Reads as refuse-reads
 use Rattle.steps.proofs.refuse_all.Reads as refuse-all-reads
 use Rattle.steps.proofs.number.Reads as number-reads
 use Rattle.steps.proofs.told.Reads as told-reads
+use Rattle.steps.proofs.is_refused.Reads as is-refused-reads
 
 pub refuse : (s : Server) (r : Refusal) → OneResult (λ x. refuse-reads.Learnt tt (s, (r, tt)) x (s, (r, tt)))
 refuse s r = one-result (refusing s r)
@@ -22,3 +23,6 @@ number n = one-result (numberOf n)
 
 pub told : (a : Answer) → OneResult (λ x. told-reads.Learnt tt (a, tt) x (a, tt))
 told a = one-result (tellingOf a)
+
+pub is-refused : (a : Answer) → OneResult (λ x. is-refused-reads.Learnt tt (a, tt) x (a, tt))
+is-refused a = one-result (isRefused a)

@@ -1,4 +1,5 @@
 -- What a step gives, and 01's and 02's number and values for each case of an answer. Assumes nothing.
+use mathlib.Core.Bool.{Bool, true, false}
 use Prim.Native.Nat.{ℕ, _%_}
 use Rattle.clock.specs.Times.{zeroTime}
 use Rattle.cluster.specs.declared.Server.{Server}
@@ -31,3 +32,11 @@ tellingOf (Reached n) = T.Numbers (numberOf n) 0 zeroTime
 tellingOf (Entry n term time) = T.Numbers (numberOf n) term time
 tellingOf (Value value time) = T.Numbers value 0 time
 tellingOf (Refused r) = T.Refusing r
+
+abbrev pub isRefused : Answer → Bool
+isRefused Done = false
+isRefused (Elected term) = false
+isRefused (Reached n) = false
+isRefused (Entry n term time) = false
+isRefused (Value value time) = false
+isRefused (Refused r) = true

@@ -1,6 +1,6 @@
 // The words of the rules: a step, a refusal, an answer, and what a step gives.
 ghost use mathlib.Core.Path.{_≡_};
-ghost use Rattle.steps.specs.Answers.{refusing, refusingAll, tellingOf, numberOf};
+ghost use Rattle.steps.specs.Answers.{refusing, refusingAll, tellingOf, numberOf, isRefused};
 use clock::Time;
 use cluster::Cluster;
 use cluster::Server;
@@ -150,5 +150,19 @@ pub fn told(a: Answer) -> Telling
         Answer::Entry(n, term, time) => Telling::Numbers(number(n), term, time),
         Answer::Value(value, time) => Telling::Numbers(value, 0, time),
         Answer::Refused(r) => Telling::Refusing(r),
+    }
+}
+
+// Whether the answer is a refusal.
+pub fn is_refused(a: Answer) -> bool
+    ensures { λ r. ⌜ r ≡ isRefused a ⌝ }
+{
+    match a {
+        Answer::Done => false,
+        Answer::Elected(_) => false,
+        Answer::Reached(_) => false,
+        Answer::Entry(_, _, _) => false,
+        Answer::Value(_, _) => false,
+        Answer::Refused(_) => true,
     }
 }

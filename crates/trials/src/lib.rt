@@ -1,5 +1,5 @@
 // A whole program: reads records and the steps tried on them as a text from standard input, and writes what each step answers and what it
-// changes. A program crate of one line calls `run`.
+// changes, and the plans that are asked for. A program crate of one line calls `run`.
 mod compare;
 mod latest;
 mod numbers;
@@ -10,7 +10,12 @@ mod told;
 use cluster::Cluster;
 use frames::ReadStep;
 use libc::STDIN_FILENO;
+use plans::MOST_FRAMES;
+use steps::Frame;
 use steps::Outcome;
+
+// How many numbers there are in a line `plan`: key, value.
+const PLAN: usize = 2;
 
 // The answer of a step on the record c, and what it changed.
 fn outcome(c: Cluster, o: Outcome) {
@@ -28,14 +33,45 @@ fn tried(c: Cluster, line: &[u8]) {
     }
 }
 
+// The frames of a plan, a line each.
+fn frames_of(all: [Frame; MOST_FRAMES], count: usize) {
+    let mut i: usize = 0;
+    while i < MOST_FRAMES {
+        if i < count {
+            let f = all[i];
+            say::line(&frames::write_frame(f));
+        }
+        i += 1;
+    }
+}
+
+// A line `plan`: the plan for its key and value is made of the record, which stays as it is.
+fn planned(c: Cluster, line: &[u8]) {
+    let n = numbers::read(line);
+    if n[0] != PLAN {
+        say::unknown(line);
+        return;
+    }
+    say::line(line);
+    let p = plans::plan(c, numbers::byte(n[1]), numbers::word(n[2]));
+    let a = p.answer;
+    say::answer(a);
+    let all = p.frames;
+    frames_of(all, p.count);
+}
+
 // What a line begins with; an empty one is as good as one with #.
 fn first_of(line: &[u8]) -> u8 {
     if line.len() == 0 { b'#' } else { line[0] }
 }
 
-// The record after a line. One that begins with a letter changes it, and one with a digit is a step line; any other is only written.
+// The record after a line. One that begins with a letter changes it, but for `plan`; one with a digit is a step line; any other is only written.
 fn taken(c: Cluster, line: &[u8]) -> Cluster {
     let first = first_of(line);
+    if first == b'p' {
+        planned(c, line);
+        return c;
+    }
     if b'a' <= first {
         return record::changed(c, line, record::numbers_by(line, first));
     }

@@ -12,14 +12,17 @@ first-record-requires c κs = search needs
 returns : tie.Need-returns
 returns c = runs-none _ _ (c .before .before .first-record .ensures) (said-no _ _ refl (c .if1 .taken))
 
+is-quiet-requires : tie.Need-is-quiet-requires
+is-quiet-requires c κs = search needs
+
 answered-requires : tie.Need-answered-requires
 answered-requires c κs = search needs
 
 returns-2 : tie.Need-returns-2
 returns-2 c =
-    let tested = c .before .before in
+    let tested = c .before .before .before in
     let first = tested .before .before .first-record in
     runs-all _ (first .result) _ (first .ensures) (said-yes _ _ refl (tested .if1 .left)) (c .answered .ensures)
 
 pub run-through-spec : {M : Type 1} → statement M
-run-through-spec = tie.close (tie.spec first-record-requires returns answered-requires returns-2)
+run-through-spec = tie.close (tie.spec first-record-requires returns is-quiet-requires answered-requires returns-2)

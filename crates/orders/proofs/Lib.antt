@@ -1,0 +1,3 @@
+-- The orders of a text. Assumes nothing.
+pub mod Ordering
+pub mod Results

@@ -1,0 +1,2 @@
+-- What the program is ordered. Assumes nothing.
+pub mod Orders
