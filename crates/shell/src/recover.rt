@@ -135,21 +135,29 @@ fn of_server(i: usize, stands: Stands) {
         }
         Stands::P => {
             server(b"the p of the cluster time", i);
-            for_ever();
+            at_its_highest();
+            say(
+                b"; where its last entry has an earlier time a restart (kind 09) takes it back, or else begin a new cluster with a start line\n",
+            );
         }
         Stands::L => {
             server(b"the l of the cluster time", i);
-            number(b" is ", clock::LIMIT as usize);
+            at_its_highest();
             say(
-                b", its highest; it passes with the next write once the wall clock is ahead of p: let wall clocks tick (kind 08), write, and let the others hear of it\n",
+                b"; it passes with the next write once the wall clock is ahead of p: let wall clocks tick (kind 08), write, and let the others hear of it\n",
             );
         }
     }
 }
 
-fn for_ever() {
+fn at_its_highest() {
     number(b" is ", clock::LIMIT as usize);
-    say(b", its highest, and stays there: begin a new cluster with a start line\n");
+    say(b", its highest");
+}
+
+fn for_ever() {
+    at_its_highest();
+    say(b", and stays there: begin a new cluster with a start line\n");
 }
 
 // Tells what stands in the way at the lowest server that has it.
