@@ -14,7 +14,7 @@ use std::path::{Path, PathBuf};
 use std::process::ExitCode;
 
 /// Where the following starts: a module and what it defines.
-const ROOTS: [(&str, &str); 31] = [
+const ROOTS: [(&str, &str); 32] = [
     ("rules.Rules", "stepOf"),
     ("replay.Texts", "answers"),
     ("replay.Texts", "leaves"),
@@ -46,6 +46,7 @@ const ROOTS: [(&str, &str); 31] = [
     ("plans.Making", "plannedOf"),
     ("recovery.Promise", "RecoveryPromised"),
     ("recovery.Promise", "OnlyNine"),
+    ("traces.Pairs", "pairLine"),
 ];
 /// What the claims decide completely by other definitions, so that its own need not be believed: it
 /// is named, and not followed.
@@ -57,7 +58,7 @@ const DECLARED: &str = ".declared.";
 /// The page of claims.
 const PAGE: &str = "crates/claims/proofs/Claims.antt";
 /// How many lines they may be.
-const MOST: usize = 1590;
+const MOST: usize = 1620;
 
 /// A definition by its module, as `log.Entries`, and its name.
 type Place = (String, String);

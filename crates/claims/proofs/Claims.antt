@@ -215,6 +215,13 @@ use Rattle.promises.proofs.RoofExample as roof
 use Rattle.promises.proofs.NewestExample as overtaken
 use Rattle.promises.proofs.StaleExample as stale
 use Rattle.promises.proofs.PhonesExample as phones
+use Rattle.traces.specs.declared.CutLine.{CutLine}
+use Rattle.traces.specs.declared.Pair.{Pair}
+use Rattle.traces.specs.Pairs.{pairLine}
+use Rattle.traces.specs.Writing.{nothingKept, keptOver, textIn, pairMade}
+use Rattle.traces.proofs.keep.Reads as keep-contract
+use Rattle.traces.proofs.pair_line.Reads as pair-line-contract
+use Rattle.traces.proofs.Keeping as traces
 use Rattle.plans.specs.declared.Planned.{Planned}
 use Rattle.plans.specs.Moves.{NoneRefused}
 use Rattle.plans.specs.Plan.{planFor}
@@ -842,6 +849,18 @@ it-covers-build-41 = (stale.covered, stale.build-41)
 
 pub what-it-covers-is-kept : Kept stale.moment stale.end 0 1
 what-it-covers-is-kept = stale.kept
+
+-- ---- a line of a trace
+
+-- what is kept of a text's last line, piece by piece, makes the pair of that line and an answer, whatever bytes it has and however long it is
+pub keep-is : (κs : Lfts 1) (k : CutLine) (bytes : RefT (List ℕ)) (r : CutLine) → keep-contract.Learnt κs (k, (bytes, tt)) r (k, (bytes, tt)) → r ≡ keptOver k (now bytes)
+keep-is κs k bytes r e = e
+
+pub pair-line-is : (k : CutLine) (a : Answer) (r : Pair) → pair-line-contract.Learnt tt (k, (a, tt)) r (k, (a, tt)) → r ≡ pairMade k a
+pair-line-is k a r e = e
+
+pub a-pair-is-the-line-and-its-answer : (text : List ℕ) (a : Answer) → textIn (pairMade (keptOver nothingKept text) a) ≡ pairLine (restAfter [] text) a
+a-pair-is-the-line-and-its-answer = traces.text-pair
 
 -- ---- how to get going again
 
