@@ -1,7 +1,8 @@
 # What starts a proved program, for the launchers ./replay and ./check, which take this in. They set here to the folder that they stand in.
 
+# (An echo may take a backslash in a name for a sign of its own.)
 die() {
-    echo "${0##*/}: $*" >&2
+    printf '%s\n' "${0##*/}: $*" >&2
     exit 1
 }
 

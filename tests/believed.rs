@@ -1,5 +1,5 @@
 //! The definitions that a reader has to believe: all that 01's step, texts and frames, the ranges of
-//! the types, what is promised of runs, the plan, the program's orders and the words of the other claims are made
+//! the types, what is promised of runs, the plan, a trace, the program's orders and the words of the other claims are made
 //! of, found by following names through every `crates/*/specs`. Writes how many lines of each file they
 //! are, and fails where they are more than it says below or a name is missing. The types that they speak
 //! of, declared in `crates/*/src`, are counted apart. With `--pins` it writes instead the files that hold
@@ -14,7 +14,7 @@ use std::path::{Path, PathBuf};
 use std::process::ExitCode;
 
 /// Where the following starts: a module and what it defines.
-const ROOTS: [(&str, &str); 32] = [
+const ROOTS: [(&str, &str); 33] = [
     ("rules.Rules", "stepOf"),
     ("replay.Texts", "answers"),
     ("replay.Texts", "leaves"),
@@ -46,7 +46,8 @@ const ROOTS: [(&str, &str); 32] = [
     ("plans.Making", "plannedOf"),
     ("recovery.Promise", "RecoveryPromised"),
     ("recovery.Promise", "OnlyNine"),
-    ("traces.Pairs", "pairLine"),
+    ("trails.Traces", "traceOf"),
+    ("trails.Reading", "answersIn"),
 ];
 /// What the claims decide completely by other definitions, so that its own need not be believed: it
 /// is named, and not followed.
@@ -58,7 +59,7 @@ const DECLARED: &str = ".declared.";
 /// The page of claims.
 const PAGE: &str = "crates/claims/proofs/Claims.antt";
 /// How many lines they may be.
-const MOST: usize = 1620;
+const MOST: usize = 1660;
 
 /// A definition by its module, as `log.Entries`, and its name.
 type Place = (String, String);

@@ -1,7 +1,7 @@
-//! Whether names mean something, and one thing. Every backquoted name of `docs/DEMANDS.md`,
-//! `docs/PROMISES.md` and `docs/EDITS.md` stands somewhere in crates and tests, in a table's cell that
-//! names files in one of those, and every path there leads to something; and no name is defined in two
-//! files of `crates/*/specs`, but for those below.
+//! Whether names mean something, and one thing. Every backquoted name of the papers below stands
+//! somewhere in crates, tests and the rest, in a table's cell that names files in one of those, and
+//! every path and link there leads to something; and no name is defined in two files of
+//! `crates/*/specs`, but for those below.
 
 use std::collections::{BTreeMap, BTreeSet};
 use std::fs;
@@ -9,12 +9,20 @@ use std::io;
 use std::path::{Path, PathBuf};
 use std::process::ExitCode;
 
-const PAPERS: [&str; 3] = ["docs/DEMANDS.md", "docs/PROMISES.md", "docs/EDITS.md"];
+const PAPERS: [&str; 7] = [
+    "README.md",
+    "docs/DEMANDS.md",
+    "docs/PROMISES.md",
+    "docs/EDITS.md",
+    "docs/SESSIONS.md",
+    "docs/TRACE.md",
+    "docs/ENGINEERS.md",
+];
 /// The heading below which names are those of the published editions.
 const EDITIONS: &str = "## 3. The published editions";
 /// Where names are looked for.
-const PLACES: [&str; 6] = ["crates", "tests", ".ci", "docs", "samples", "bench"];
-const LAUNCHERS: [&str; 5] = ["replay", "check", "launch.sh", "crates.txt", "README.md"];
+const PLACES: [&str; 7] = ["crates", "tests", ".ci", "docs", "samples", "bench", "show"];
+const LAUNCHERS: [&str; 4] = ["replay", "check", "launch.sh", "crates.txt"];
 /// Names that two files define, with why.
 const TWICE: [(&str, &str); 0] = [];
 
@@ -22,7 +30,9 @@ fn main() -> ExitCode {
     let findings = words().and_then(|words| {
         let mut findings = defined_twice()?;
         for paper in PAPERS {
-            findings.extend(unknown(&words, paper, &fs::read_to_string(paper)?));
+            let text = fs::read_to_string(paper)?;
+            findings.extend(unknown(&words, paper, &text));
+            findings.extend(dead_links(Path::new(paper), &text));
         }
         Ok(findings)
     });
@@ -94,6 +104,14 @@ fn unknown(words: &Words, paper: &str, text: &str) -> Vec<String> {
     findings
 }
 
+/// The links of a paper that lead to no file, seen from where it stands.
+fn dead_links(paper: &Path, text: &str) -> Vec<String> {
+    let targets = text.split("](").skip(1).filter_map(|rest| rest.split(')').next());
+    let is_dead = |target: &&str| !paper.with_file_name(target).is_file();
+    let told = |target| format!("{}: the link to {target} leads nowhere", paper.display());
+    targets.filter(is_dead).map(told).collect()
+}
+
 /// Whether names are defined in such a file; an edit, a sample or a script only shows something of one.
 fn is_home(file: &Path) -> bool {
     file.extension().is_some_and(|ending| ["antt", "rs", "rt"].iter().any(|home| ending == *home))
@@ -104,8 +122,8 @@ fn is_path(term: &str) -> bool {
     !term.contains(' ') && (term.contains('/') || term.starts_with('.') || is_file)
 }
 
-/// The files that a path leads to: itself or what is below it, as it stands or below `crates`; the
-/// edit `ROOM/NAME`; any, where it has a star.
+/// The files that a path leads to: itself or what is below it, as it stands, below `crates` or, where
+/// it is one folder's name alone, in any crate; the edit `ROOM/NAME`; any, where it has a star.
 fn led_to<'w>(words: &'w Words, path: &str) -> Vec<&'w PathBuf> {
     let path = path.trim_start_matches("./").trim_end_matches('/');
     if path.contains('*') || path.contains("NAME") || path.contains("LABEL") {
@@ -117,7 +135,9 @@ fn led_to<'w>(words: &'w Words, path: &str) -> Vec<&'w PathBuf> {
         let is_edit = edit
             .as_ref()
             .is_some_and(|(room, name)| file.starts_with(room) && file.ends_with(name));
-        file.starts_with(path) || file.starts_with(&below) || file.ends_with(path) || is_edit
+        let is_of_crates = file.iter().nth(2).is_some_and(|folder| folder == path);
+        let is_below = file.starts_with(path) || file.starts_with(&below);
+        is_below || file.ends_with(path) || is_edit || is_of_crates
     };
     words.keys().filter(|file| is_led(file)).collect()
 }

@@ -124,9 +124,9 @@ fn some_write(prng: &mut Prng) -> Write {
     (prng.below(16) as u8, value)
 }
 
-/// The line of orders, with a write in it.
+/// The line of orders, with a write in it, and no stretch.
 fn orders(what: u8, (key, value): Write) -> String {
-    format!("{what:02x}{key:02x}{value:04x}\n")
+    format!("{what:02x}{key:02x}{value:04x}{:016x}\n", 0)
 }
 
 /// What is written of all sessions, one after the other.

@@ -230,10 +230,10 @@ fn each_cause_stands_alone_at_each_server() {
         let Ok(why) = read("why") else { break };
         let (record, orders) = (load(read("saved").unwrap().as_bytes()), read("orders").unwrap());
         let (refusal, what) = why.trim_end().split_once(' ').unwrap_or((why.trim_end(), ""));
-        assert!(orders.starts_with("09") && orders.ends_with('\n') && orders.len() == 9);
+        assert!(orders.starts_with("09") && orders.ends_with('\n') && orders.len() == 25);
         match what {
             "key" => assert!(orders.starts_with("0910") || orders.starts_with("09ff")),
-            "value" => assert!(orders.ends_with("0000\n")),
+            "value" => assert_eq!(&orders[4..8], "0000"),
             "" => {}
             _ => assert_eq!(causes(&record.unwrap()), [what]),
         }

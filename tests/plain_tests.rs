@@ -61,7 +61,7 @@ fn the_printed_session() {
     is_answered(&session);
 }
 
-/// README's other sessions.
+/// The other sessions of `docs/SESSIONS.md`.
 #[test]
 fn the_samples() {
     let samples = [

@@ -117,7 +117,8 @@ use Rattle.replay.specs.declared.Finished.{Finished}
 use Rattle.replay.specs.declared.Session.{Session}
 use Rattle.replay.specs.Texts.{recordAfter, answers, leaves, answerTo}
 use Rattle.lines.specs.declared.Reader.{Reader}
-use Rattle.lines.specs.Texts.{lineFeed, together, placed, restAfter}
+use Rattle.lines.specs.Texts.{lineFeed, lines, together, placed, restAfter}
+use Rattle.lines.specs.Turns.{DrainsBy}
 use Rattle.lines.specs.Held.{tooLong}
 use Rattle.lines.specs.Readers.{width, freshReader, lineHeld, pushOf, readerAfter, readerOver, readerFor}
 use Rattle.lines.proofs.take as take-contract
@@ -138,7 +139,6 @@ use Rattle.orders.specs.declared.Ordered.{Ordered}
 use Rattle.orders.specs.Orders.{ordersIn}
 use Rattle.orders.proofs.orders_in.Reads as orders-in-contract
 use Rattle.shell.specs.declared.Drained.{Drained}
-use Rattle.shell.specs.Loop.{Drains}
 use Rattle.shell.proofs.Contracts as program
 use Rattle.shell.proofs.Loop as loop
 use Rattle.histories.specs.declared.PhoneRecord.{PhoneRecord}
@@ -175,7 +175,7 @@ use native.Mathlib.Omega.{arith}
 use Rattle.saved.specs.declared.Saved.{Saved}
 use Rattle.saved.specs.declared.Saved.the-variants as saving
 use Rattle.saved.specs.Editions.{Edition, edition1, edition2, edition3, editions, newest, hasForm}
-use Rattle.saved.specs.Saved.{saveOf}
+use Rattle.saved.specs.Saved.{allFrames, textOf, saveOf}
 use Rattle.saved.specs.Shape.{namedIn, shaped}
 use Rattle.saved.specs.Written.{longest, savedAsOf, savedAsOut, savedOf, savedOut}
 use Rattle.saved.proofs.Allowed as allowed
@@ -222,6 +222,16 @@ use Rattle.traces.specs.Writing.{nothingKept, keptOver, textIn, pairMade}
 use Rattle.traces.proofs.keep.Reads as keep-contract
 use Rattle.traces.proofs.pair_line.Reads as pair-line-contract
 use Rattle.traces.proofs.Keeping as traces
+use Rattle.trails.specs.declared.Wanted.{Wanted}
+use Rattle.trails.specs.declared.Lined.{Lined}
+use Rattle.trails.specs.declared.follow.Followed.{Followed}
+use Rattle.trails.specs.Traces.{formBy, changeOf, traceOf}
+use Rattle.trails.specs.Reading.{answersIn}
+use Rattle.trails.specs.Bytes.{linedOf, linedOut, begunTrail, trailOver, shownOver, shownLast, endedTrail}
+use Rattle.trails.proofs.put_line.Reads as put-line-contract
+use Rattle.trails.proofs.Following as trails
+use Rattle.trails.proofs.ReadBack as read-back
+use Rattle.trails.proofs.Facts as trace-facts
 use Rattle.plans.specs.declared.Planned.{Planned}
 use Rattle.plans.specs.Moves.{NoneRefused}
 use Rattle.plans.specs.Plan.{planFor}
@@ -426,10 +436,10 @@ pub the-program-is-as-defined : program.ProgramIs
 the-program-is-as-defined = program.program-is
 
 -- the program's loop goes through some pieces, whose answers and record those are
-pub program-says : (c : Cluster) (r : Drained) (d : Drains (begun c) r) → saysAll (begun c) (d .pieces) ++ ending (r .session) ≡ answers c (together (d .pieces))
+pub program-says : (c : Cluster) (r : Drained) (d : DrainsBy runs (begun c) (r .session) (r .end)) → saysAll (begun c) (d .pieces) ++ ending (r .session) ≡ answers c (together (d .pieces))
 program-says = loop.drained-says
 
-pub program-leaves : (c : Cluster) (r : Drained) (d : Drains (begun c) r) → ended (r .session) ≡ leaves c (together (d .pieces))
+pub program-leaves : (c : Cluster) (r : Drained) (d : DrainsBy runs (begun c) (r .session) (r .end)) → ended (r .session) ≡ leaves c (together (d .pieces))
 program-leaves = loop.drained-record
 
 -- ---- demand 3
@@ -850,7 +860,7 @@ it-covers-build-41 = (stale.covered, stale.build-41)
 pub what-it-covers-is-kept : Kept stale.moment stale.end 0 1
 what-it-covers-is-kept = stale.kept
 
--- ---- a line of a trace
+-- ---- a trace
 
 -- what is kept of a text's last line, piece by piece, makes the pair of that line and an answer, whatever bytes it has and however long it is
 pub keep-is : (κs : Lfts 1) (k : CutLine) (bytes : RefT (List ℕ)) (r : CutLine) → keep-contract.Learnt κs (k, (bytes, tt)) r (k, (bytes, tt)) → r ≡ keptOver k (now bytes)
@@ -861,6 +871,38 @@ pair-line-is k a r e = e
 
 pub a-pair-is-the-line-and-its-answer : (text : List ℕ) (a : Answer) → textIn (pairMade (keptOver nothingKept text) a) ≡ pairLine (restAfter [] text) a
 a-pair-is-the-line-and-its-answer = traces.text-pair
+
+-- a line's part of a trace, in any buffer: its pair, and the form of the record where that has changed
+pub put-line-is : (κs : Lfts 1) (w : Wanted) (n : ℕ) (c : Cluster) (k : CutLine) (out o : RefT (List ℕ)) (r : Lined)
+    → put-line-contract.Learnt κs (w, (n, (c, (k, (out, tt))))) r (w, (n, (c, (k, (o, tt)))))
+    → (r ≡ linedOf w n c k (length (now out))) × (now o ≡ linedOut w n c k (now out))
+put-line-is κs w n c k out o r e = e
+
+-- however a text is cut, what is shown on the way is its trace, and the record is the one that it leaves
+pub a-trace-is-the-same-in-pieces : (w : Wanted) (c : Cluster) (r : Followed) (d : DrainsBy trailOver (begunTrail c) (r .trail) (r .end))
+    → shownOver w (begunTrail c) (together (d .pieces)) ++ shownLast w (r .trail) ≡ traceOf w c (together (d .pieces))
+a-trace-is-the-same-in-pieces w c r d = trails.follows-trace c r d w
+
+pub a-traced-run-leaves-its-record : (c : Cluster) (r : Followed) (d : DrainsBy trailOver (begunTrail c) (r .trail) (r .end)) → endedTrail (r .trail) ≡ leaves c (together (d .pieces))
+a-traced-run-leaves-its-record = trails.drained-record
+
+-- the answers of its pairs are the answer lines of the text in order
+pub the-pairs-have-the-answers : (w : Wanted) (c : Cluster) (text : List ℕ) → w .before ≡ 0 → w .last ≡ 0 → answersIn (lines (traceOf w c text)) ≡ answers c text
+the-pairs-have-the-answers = read-back.read-back
+
+-- a brief form is what the saved form of a well-formed record begins with
+pub a-brief-form-is-the-first-frame : (c : Cluster) → wellFormed c ≡ true → saveOf c ≡ formBy true c ++ textOf (allFrames (newest .widths) (take (c .count) (c .servers)))
+a-brief-form-is-the-first-frame = trace-facts.brief-begins
+
+-- a record's form stands after a line exactly where it differs from the one before, and never after a refusal
+pub no-form-where-none-changed : (brief : Bool) (c d : Cluster) → formBy brief c ≡ formBy brief d → changeOf brief c d ≡ []
+no-form-where-none-changed = trace-facts.change-none
+
+pub a-form-where-it-changed : (brief : Bool) (c d : Cluster) → (formBy brief c ≡ formBy brief d → ⊥) → changeOf brief c d ≡ formBy brief d
+a-form-where-it-changed = trace-facts.change-some
+
+pub no-form-after-a-refusal : (brief : Bool) (c : Cluster) (line : List ℕ) (r : Refusal) → answerTo c line .answer ≡ A.Refused r → changeOf brief c (answerTo c line .cluster) ≡ []
+no-form-after-a-refusal = trace-facts.refused-none
 
 -- ---- how to get going again
 

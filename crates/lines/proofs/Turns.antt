@@ -1,10 +1,10 @@
 -- What a read answered, a law for each way that it can be: nothing, that it failed, or some bytes. Assumes nothing.
 use mathlib.Core.Path.{_≡_, refl, sym, ap, _∙_, subst}
 use mathlib.Core.Bool.{Bool, true, false, cond}
-use mathlib.Core.List.{List, [], _∷_}
-use Prim.Native.Nat.{ℕ, _<_, min}
+use mathlib.Core.List.{List, [], _∷_, _++_}
+use Prim.Native.Nat.{ℕ, _+_, _-_, _≤_, _<_, min}
 use native.Mathlib.Omega.{arith}
-use lib.ListN.{length, take}
+use lib.ListN.{length, take, length-append}
 use lib.IntN.{ℤ, pos, negsuc}
 use lib.Signed.{ltZ}
 use mir.Syntax.{w64}
@@ -17,7 +17,7 @@ use lib.Dec.{leb}
 use lib.Seq.{take-all, take-length}
 use Rattle.lines.specs.declared.End.{End}
 use Rattle.lines.specs.declared.End.the-variants.{More, Input, CannotRead, CannotWrite}
-use Rattle.lines.specs.Turns.{given, endOf}
+use Rattle.lines.specs.Turns.{given, endOf, isInput, mostTurns, overPieces, TurnsBy, DrainsBy}
 use Rattle.lines.proofs.End.{the-type}
 
 -- the places of the ends at which it is over
@@ -26,6 +26,16 @@ ends = 1 ∷ 2 ∷ 3 ∷ []
 
 pub over : (e : End) → OneOf ends (tagOf the-type e) → e ≡ More → ⊥
 over e h m = miss ends 0 tt (subst (λ (x : End). OneOf ends (tagOf the-type x)) m h)
+
+-- the places of the ends other than that of the input
+abbrev others : List ℕ
+others = 0 ∷ 2 ∷ 3 ∷ []
+
+pub not-at-end : (e : End) → OneOf others (tagOf the-type e) → isInput e ≡ false
+not-at-end More h = refl
+not-at-end Input h = absurd (miss others 1 tt h)
+not-at-end CannotRead h = refl
+not-at-end CannotWrite h = refl
 
 -- what a read gave, and how its turn ends
 pub record Answers (got : ℤ) (buffer : List ℕ) (wrote : Bool) (x : List ℕ) (e : End) : Type 0 where
@@ -73,3 +83,59 @@ module _ (buffer : List ℕ) (got : ℤ) (fits : SFits w64 got) where
       go : (z : ℤ) → ltZ z (pos 0) ≡ false → (z ≡ pos 0 → ⊥) → ((k : ℕ) → z ≡ pos k → n ≡ min k (length buffer)) → Answers z buffer wrote (take n buffer) (cond wrote More CannotWrite)
       go (pos k) h some e = record { piece = first k (e k refl); end = rw (ne-eqb k 0 (λ z. some (ap pos z))) }
       go (negsuc k) h some e = let z : _≡_ {A = ℕ} 0 1 = cc in let w : ⊥ = omega arith in absurd w
+
+-- ---- whatever is done with a piece
+
+module _ {A : Type 0} (f : A → List ℕ → A) where
+  -- one piece more
+  pub pieces-more : (a : A) (xs : List (List ℕ)) (x : List ℕ) → overPieces f a (xs ++ (x ∷ [])) ≡ f (overPieces f a xs) x
+  pieces-more a [] x = refl
+  pieces-more a (y ∷ ys) x = pieces-more (f a y) ys x
+
+  -- a turn, with what a read answered
+  module _ (a : A) (nothing : f a [] ≡ a) (buffer : List ℕ) (got : ℤ) (fits : SFits w64 got) where
+    pub turned-end : ofZ w64 got ≡ 0 → TurnsBy f a buffer got a Input
+    turned-end e = let r = read-end buffer got fits e in record { state = sym nothing ∙ ap (f a) (r .piece); wrote = true; end = r .end }
+
+    pub turned-failed : ltZ (toZ w64 (ofZ w64 got)) (pos 0) ≡ true → TurnsBy f a buffer got a CannotRead
+    turned-failed e = let r = read-failed buffer got fits e in record { state = sym nothing ∙ ap (f a) (r .piece); wrote = true; end = r .end }
+
+    pub turned-piece : (n : ℕ) (b : A) (e : End) (wrote : Bool) → (ofZ w64 got ≡ 0 → ⊥) → ltZ (toZ w64 (ofZ w64 got)) (pos 0) ≡ false
+        → ((k : ℕ) → toZ w64 (ofZ w64 got) ≡ pos k → n ≡ min k (length buffer)) → b ≡ f a (take n buffer) → e ≡ cond wrote More CannotWrite → TurnsBy f a buffer got b e
+    turned-piece n b e wrote some below m p q =
+        let r = read-some buffer got fits wrote n some below m in
+        record { state = p ∙ ap (f a) (r .piece); wrote = wrote; end = q ∙ r .end }
+
+  -- some pieces are done, so many that the rest of the turns is left
+  pub record GoingBy (a d : A) (turns : ℕ) : Type 0 where
+    pub pieces : List (List ℕ)
+    pub state : d ≡ overPieces f a pieces
+    pub left : length pieces + turns ≡ mostTurns
+
+  pub begins-by : (a : A) → GoingBy a a mostTurns
+  begins-by a = record { pieces = []; state = refl; left = refl }
+
+  module _ (a d : A) (turns : ℕ) (buffer : List ℕ) (got : ℤ) (b : A) (e : End) (g : GoingBy a d turns) (u : TurnsBy f d buffer got b e) (h : 0 < turns) where
+    pub goes-on-by : GoingBy a b (turns - 1)
+    goes-on-by =
+        record {
+          pieces = g .pieces ++ (given got buffer ∷ []);
+          state = u .state ∙ ap (λ (x : A). f x (given got buffer)) (g .state) ∙ sym (pieces-more a (g .pieces) (given got buffer));
+          left = omega (arith, length-append (g .pieces) (given got buffer ∷ []), g .left);
+        }
+
+    pub stops-by : (e ≡ More → ⊥) → DrainsBy f a b e
+    stops-by over =
+        record {
+          pieces = goes-on-by .pieces;
+          state = goes-on-by .state;
+          last = got;
+          wrote = u .wrote;
+          end = u .end;
+          patient = λ m. absurd (over m);
+        }
+
+  pub gives-up-by : (a d : A) (turns : ℕ) → turns ≤ 0 → GoingBy a d turns → DrainsBy f a d More
+  unfolding endOf
+  gives-up-by a d turns h g =
+      record { pieces = g .pieces; state = g .state; last = pos 1; wrote = true; end = refl; patient = λ e. omega (arith, g .left) }

@@ -1,9 +1,10 @@
 -- A text that is read from a descriptor turn by turn: what a read gave, and how a turn ends. Assumes nothing.
 use mathlib.Core.Bool.{Bool, true, false, cond}
-use mathlib.Core.List.{List, []}
+use mathlib.Core.Path.{_≡_}
+use mathlib.Core.List.{List, [], _∷_}
 use Prim.Native.Nat.{ℕ}
 use lib.Dec.{eqb}
-use lib.ListN.{take}
+use lib.ListN.{length, take}
 use lib.IntN.{ℤ, pos, negsuc}
 use Rattle.lines.specs.declared.End.{End}
 use Rattle.lines.specs.declared.End.the-variants.{More, Input, CannotRead, CannotWrite}
@@ -32,3 +33,26 @@ isInput More = false
 isInput Input = true
 isInput CannotRead = false
 isInput CannotWrite = false
+
+-- ---- whatever is done with a piece
+
+module _ {A : Type 0} (f : A → List ℕ → A) where
+  abbrev pub overPieces : A → List (List ℕ) → A
+  overPieces a [] = a
+  overPieces a (x ∷ xs) = overPieces (f a x) xs
+
+  -- one turn: what was given is done, and the turn ends as it must
+  pub record TurnsBy (a : A) (buffer : List ℕ) (got : ℤ) (b : A) (e : End) : Type 0 where
+    pub state : b ≡ f a (given got buffer)
+    pub wrote : Bool
+    pub end : e ≡ endOf got wrote
+
+  -- all turns: pieces were done, and it stopped for what the last read answered or because something couldn't be written; it gives up with more to
+  -- read only after so many turns as nobody lives to see
+  pub record DrainsBy (a b : A) (e : End) : Type 0 where
+    pub pieces : List (List ℕ)
+    pub state : b ≡ overPieces a pieces
+    pub last : ℤ
+    pub wrote : Bool
+    pub end : e ≡ endOf last wrote
+    pub patient : e ≡ More → length pieces ≡ mostTurns

@@ -1,18 +1,12 @@
--- The program's loop, a law for each way that a turn can go. Assumes nothing.
+-- The program's loop: a piece, what its pieces come to, and a whole input. Assumes nothing.
 use mathlib.Core.Path.{_≡_, refl, sym, ap, _∙_, subst}
 use mathlib.Core.Bool.{Bool, true, false, _&&_}
 use mathlib.Core.List.{List, [], _∷_, _++_}
-use Prim.Native.Nat.{ℕ, _≤_, _<_, _*_, _+_, _-_}
-use native.Mathlib.Omega.{arith}
-use lib.ListN.{length, take, length-append}
-use lib.IntN.{ℤ, pos}
-use lib.Signed.{ltZ}
-use mir.Syntax.{w64}
-use mir.Val.{SFits, toZ, ofZ}
-use types.Run.{OneOf, miss}
+use Prim.Native.Nat.{ℕ, _≤_, _*_}
+use lib.ListN.{length}
+use types.Run.{OneOf}
 use denote.Enum.Declared.{tagOf}
 use borrow.Author.Tests.{le-ltb}
-use Rattle.io.specs.Counts.{clamped}
 use Rattle.base.proofs.Bools.{not-both}
 use Rattle.cluster.specs.declared.Cluster.{Cluster}
 use Rattle.replay.specs.declared.Session.{Session}
@@ -25,14 +19,16 @@ use Rattle.replay.specs.Pieces.{answerLine, begun, runs, says, runsAll, saysAll
 use Rattle.replay.proofs.Whole.{any-pieces, any-pieces-record}
 use Rattle.replay.proofs.Parts.{fed-all, fed-all-out}
 use Rattle.lines.specs.declared.End.{End}
-use Rattle.lines.specs.declared.End.the-variants.{More, Input, CannotRead, CannotWrite}
+use Rattle.lines.specs.declared.End.the-variants.{Input}
 use Rattle.shell.specs.declared.Drained.{Drained}
 use Rattle.shell.specs.declared.saves.Led.{Led}
 use Rattle.lines.proofs.End.{the-type}
-use Rattle.lines.specs.Turns.{endOf, isInput, given, mostTurns}
+use Rattle.lines.specs.Turns.{isInput, overPieces, DrainsBy}
 use Rattle.lines.specs.Folds.{atEnd}
-use Rattle.lines.proofs.Turns.{read-end, read-failed, read-some}
-use Rattle.shell.specs.Loop.{closedBy, finishedBy, Poured, Turned, Drains, Finishes, Answered}
+use Rattle.lines.proofs.Turns.{not-at-end}
+use Rattle.trails.specs.declared.follow.Traced.{Traced}
+use Rattle.trails.specs.Loop.{Follows}
+use Rattle.shell.specs.Loop.{closedBy, finishedBy, Poured, Finishes, Answered, TracedAll}
 
 pub poured : (s : Session) (piece out out′ : List ℕ) (f : Fed) (wrote : Bool) (r : Drained) → answerLine * length piece ≤ length out
     → f ≡ fedOf s piece (length out) → out′ ≡ fedOut s piece out → r ≡ closedBy (f .session) wrote
@@ -46,60 +42,17 @@ poured s piece out out′ f wrote r h e o p = (
   o ∙ fed-all-out s piece out h,
 )
 
--- the read answered 0, that it failed, or some bytes
-module _ (s : Session) (buffer : List ℕ) (got : ℤ) (f : SFits w64 got) where
-  pub turned-end : ofZ w64 got ≡ 0 → Turned s buffer got (record { session = s; end = Input })
-  turned-end e = let a = read-end buffer got f e in record { session = ap (runs s) (a .piece); wrote = true; end = a .end }
-
-  pub turned-failed : ltZ (toZ w64 (ofZ w64 got)) (pos 0) ≡ true → Turned s buffer got (record { session = s; end = CannotRead })
-  turned-failed e = let a = read-failed buffer got f e in record { session = ap (runs s) (a .piece); wrote = true; end = a .end }
-
-  pub turned-piece : (n : ℕ) (r : Drained) → (ofZ w64 got ≡ 0 → ⊥) → ltZ (toZ w64 (ofZ w64 got)) (pos 0) ≡ false
-      → n ≡ clamped (toZ w64 (ofZ w64 got)) (length buffer) → Poured s (take n buffer) r → Turned s buffer got r
-  turned-piece n r some b e p =
-      let a = read-some buffer got f (p .wrote) n some b (λ k z. e ∙ ap (λ (y : ℤ). clamped y (length buffer)) z) in
-      record { session = p .session ∙ ap (runs s) (a .piece); wrote = p .wrote; end = p .end ∙ a .end }
-
--- one piece more
-pub runs-all-more : (s : Session) (xs : List (List ℕ)) (x : List ℕ) → runsAll s (xs ++ (x ∷ [])) ≡ runs (runsAll s xs) x
-runs-all-more s [] x = refl
-runs-all-more s (y ∷ ys) x = runs-all-more (runs s y) ys x
-
--- some pieces have gone through the session, so many that the rest of the turns is left
-pub record Going (s d : Session) (turns : ℕ) : Type 0 where
-  pub pieces : List (List ℕ)
-  pub session : d ≡ runsAll s pieces
-  pub left : length pieces + turns ≡ mostTurns
-
-pub begins : (s : Session) → Going s s mostTurns
-begins s = record { pieces = []; session = refl; left = refl }
-
-pub goes-on : (s d : Session) (turns : ℕ) (buffer : List ℕ) (got : ℤ) (t : Drained) → Going s d turns → Turned d buffer got t → 0 < turns
-    → Going s (t .session) (turns - 1)
-goes-on s d turns buffer got t g u h =
-    record {
-      pieces = g .pieces ++ (given got buffer ∷ []);
-      session = u .session ∙ ap (λ (e : Session). runs e (given got buffer)) (g .session) ∙ sym (runs-all-more s (g .pieces) (given got buffer));
-      left = omega (arith, length-append (g .pieces) (given got buffer ∷ []), g .left);
-    }
-
-pub stops : (s d : Session) (turns : ℕ) (buffer : List ℕ) (got : ℤ) (t : Drained) → Going s d turns → Turned d buffer got t → 0 < turns
-    → (t .end ≡ More → ⊥) → Drains s t
-stops s d turns buffer got t g u h over =
-    let n = goes-on s d turns buffer got t g u h in
-    record { pieces = n .pieces; session = n .session; last = got; wrote = u .wrote; end = u .end; patient = λ e. absurd (over e) }
-
-pub gives-up-at : (s d : Session) (turns : ℕ) → turns ≤ 0 → Going s d turns → Drains s (record { session = d; end = More })
-unfolding endOf
-gives-up-at s d turns h g =
-    record { pieces = g .pieces; session = g .session; last = pos 1; wrote = true; end = refl; patient = λ e. omega (arith, g .left) }
+-- pieces one after the other
+runs-pieces : (s : Session) (xs : List (List ℕ)) → overPieces runs s xs ≡ runsAll s xs
+runs-pieces s [] = refl
+runs-pieces s (x ∷ xs) = runs-pieces (runs s x) xs
 
 -- what the program's loop comes to: the pieces that it read are a text, whose answers were said and whose record is left
-pub drained-record : (c : Cluster) (r : Drained) (d : Drains (begun c) r) → ended (r .session) ≡ leaves c (together (d .pieces))
-drained-record c r d = ap ended (d .session) ∙ any-pieces-record c (d .pieces)
+pub drained-record : (c : Cluster) (r : Drained) (d : DrainsBy runs (begun c) (r .session) (r .end)) → ended (r .session) ≡ leaves c (together (d .pieces))
+drained-record c r d = ap ended (d .state ∙ runs-pieces (begun c) (d .pieces)) ∙ any-pieces-record c (d .pieces)
 
-pub drained-says : (c : Cluster) (r : Drained) (d : Drains (begun c) r) → saysAll (begun c) (d .pieces) ++ ending (r .session) ≡ answers c (together (d .pieces))
-drained-says c r d = ap (λ (s : Session). saysAll (begun c) (d .pieces) ++ ending s) (d .session) ∙ any-pieces c (d .pieces)
+pub drained-says : (c : Cluster) (r : Drained) (d : DrainsBy runs (begun c) (r .session) (r .end)) → saysAll (begun c) (d .pieces) ++ ending (r .session) ≡ answers c (together (d .pieces))
+drained-says c r d = ap (λ (s : Session). saysAll (begun c) (d .pieces) ++ ending s) (d .state ∙ runs-pieces (begun c) (d .pieces)) ∙ any-pieces c (d .pieces)
 
 -- ---- the whole input
 
@@ -116,9 +69,9 @@ pub finishes : (s : Session) (room : ℕ) (f : Finished) (wrote : Bool) (r : Led
     → r ≡ finishedBy (f .session .cluster) wrote → Finishes s r
 finishes s room f wrote r h e p = record { wrote = wrote; result = p ∙ ap (λ (c : Cluster). finishedBy c wrote) (finished-record s room f h e) }
 
-pub answered-all : (c : Cluster) (s : Session) (d : Drained) (r : Led) → s ≡ begun c → Drains s d → d .end ≡ Input → Finishes (d .session) r → Answered c r
+pub answered-all : (c : Cluster) (s : Session) (d : Drained) (r : Led) → s ≡ begun c → DrainsBy runs s (d .session) (d .end) → d .end ≡ Input → Finishes (d .session) r → Answered c r
 answered-all c s d r b g i e =
-    let h = subst (λ (x : Session). Drains x d) b g in
+    let h = subst (λ (x : Session). DrainsBy runs x (d .session) (d .end)) b g in
     record {
       turns = d;
       drains = h;
@@ -127,22 +80,27 @@ answered-all c s d r b g i e =
       record-left = λ _. ap (λ (l : Led). l .cluster) (e .result) ∙ drained-record c d h;
     }
 
--- the places of the ends other than that of the input
-abbrev others : List ℕ
-others = 0 ∷ 2 ∷ 3 ∷ []
-
-not-at-end : (e : End) → OneOf others (tagOf the-type e) → isInput e ≡ false
-not-at-end More h = refl
-not-at-end Input h = absurd (miss others 1 tt h)
-not-at-end CannotRead h = refl
-not-at-end CannotWrite h = refl
-
-pub answered-not : (c : Cluster) (s : Session) (d : Drained) (r : Led) → s ≡ begun c → Drains s d → OneOf others (tagOf the-type (d .end)) → r .well ≡ false → Answered c r
+pub answered-not : (c : Cluster) (s : Session) (d : Drained) (r : Led) → s ≡ begun c → DrainsBy runs s (d .session) (d .end) → OneOf (0 ∷ 2 ∷ 3 ∷ []) (tagOf the-type (d .end)) → r .well ≡ false → Answered c r
 answered-not c s d r b g o e =
     record {
       turns = d;
-      drains = subst (λ (x : Session). Drains x d) b g;
+      drains = subst (λ (x : Session). DrainsBy runs x (d .session) (d .end)) b g;
       wrote = false;
       well = e ∙ ap (λ (x : Bool). x && false) (sym (not-at-end (d .end) o));
       record-left = λ h. not-both _ h e;
     }
+
+-- ---- the whole input, traced
+
+module _ (c : Cluster) (t : Traced) (f : Follows c t) where
+  pub traced-all : t .end ≡ Input → TracedAll c (record { cluster = t .cluster; well = true })
+  traced-all i = record { run = t; follows = f; well = sym (ap isInput i); record-left = refl }
+
+  pub traced-not : (r : Led) → OneOf (0 ∷ 2 ∷ 3 ∷ []) (tagOf the-type (t .end)) → r ≡ record { cluster = t .cluster; well = false } → TracedAll c r
+  traced-not r o e =
+      record {
+        run = t;
+        follows = f;
+        well = ap (λ (l : Led). l .well) e ∙ sym (not-at-end (t .end) o);
+        record-left = ap (λ (l : Led). l .cluster) e;
+      }

@@ -6,7 +6,7 @@ use Prim.Native.Nat.{ℕ}
 use Rattle.cluster.specs.Servers.{zeroCluster}
 use Rattle.orders.specs.declared.Orders.{Orders}
 use Rattle.shell.specs.declared.saves.Led.{Led}
-use Rattle.shell.specs.Loop.{Answered}
+use Rattle.shell.specs.Loop.{Answered, TracedAll}
 use Rattle.shell.specs.Saving.{led, Loads}
 
 -- a run is quiet where something else is written in the place of answers
@@ -26,9 +26,10 @@ pub record BeginsBy (o : Orders) (r : Led) : Type 0 where
   pub loads : o .load ≡ true → Loads r
   pub zero : o .load ≡ false → r ≡ led zeroCluster
 
--- a run: nothing is read where it has no record to begin with, and otherwise its input is answered from there
+-- a run: nothing is read where it has no record to begin with, and otherwise its input is answered from there, or traced
 pub record RunsBy (o : Orders) (r : Led) : Type 0 where
   pub first : Led
   pub begins : BeginsBy o first
   pub unread : first .well ≡ false → r ≡ first
-  pub answers : first .well ≡ true → Answered (first .cluster) r
+  pub answers : first .well ≡ true → o .trace ≡ false → Answered (first .cluster) r
+  pub traces : first .well ≡ true → o .trace ≡ true → TracedAll (first .cluster) r

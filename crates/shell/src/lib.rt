@@ -1,5 +1,5 @@
 // The whole program, thin over the proved libraries: its orders, step lines from standard input to its end, an answer line for each, and the
-// record loaded before, saved after, and in the place of answers listed, or planned for. A program crate of one line calls `run`.
+// record loaded before, saved after, and in the place of answers listed, planned for, or traced. A program crate of one line calls `run`.
 mod faults;
 mod list;
 mod recover;
@@ -12,9 +12,9 @@ ghost use mathlib.Core.Bool.{false};
 ghost use Prim.Native.Nat.{_≤_, _*_};
 ghost use lib.ListN.{length};
 ghost use Rattle.lines.specs.Texts.{placed};
-ghost use Rattle.replay.specs.Pieces.{answerLine, says};
-ghost use Rattle.lines.specs.Turns.{mostPiece};
-ghost use Rattle.shell.specs.Loop.{closedBy, finishedBy, Poured, Turned, Drains, Finishes, Answered};
+ghost use Rattle.replay.specs.Pieces.{answerLine, runs, says};
+ghost use Rattle.lines.specs.Turns.{mostPiece, TurnsBy, DrainsBy};
+ghost use Rattle.shell.specs.Loop.{closedBy, finishedBy, Poured, Finishes, Answered, TracedAll};
 ghost use Rattle.shell.specs.AsOrdered.{answersDue, isQuietBy, isSavedBy, BeginsBy, RunsBy};
 use cluster::Cluster;
 use libc::STDIN_FILENO;
@@ -25,6 +25,8 @@ use orders::Ordered;
 use orders::Orders;
 use replay::Session;
 use saves::Led;
+use trails::Wanted;
+use trails::follow;
 
 const ORDERS_FILENO: i32 = 7;
 
@@ -82,7 +84,7 @@ fn pour(quiet: bool, s: Session, piece: &[u8], out: &mut [u8]) -> Drained
 // One turn with what a read answered: a short piece is a piece like any other, and only none at all is the end of the input.
 fn turn(quiet: bool, s: Session, buffer: &[u8], got: isize, out: &mut [u8]) -> Drained
     requires { ⌜ answerLine * length (now buffer) ≤ length (now out) ⌝ }
-    ensures { λ r. ⌜ Turned s (now (buffer .entry)) got r ⌝ }
+    ensures { λ r. ⌜ TurnsBy runs s (now (buffer .entry)) got (r .session) (r .end) ⌝ }
 {
     if got == 0 {
         return Drained {
@@ -103,7 +105,7 @@ fn turn(quiet: bool, s: Session, buffer: &[u8], got: isize, out: &mut [u8]) -> D
 // Standard input to its end. The count of turns only makes the loop end: nobody lives to see it run out.
 fn drain(quiet: bool, s: Session, out: &mut [u8]) -> Drained
     requires { ⌜ answerLine * mostPiece ≤ length (now out) ⌝ }
-    ensures { λ r. ⌜ Drains s r ⌝ }
+    ensures { λ r. ⌜ DrainsBy runs s (r .session) (r .end) ⌝ }
 {
     let mut d = s;
     let mut turns = u64::MAX;
@@ -154,14 +156,13 @@ fn ended(quiet: bool, s: Session, out: &mut [u8]) -> Led
 }
 
 // Says why the input wasn't answered to its end.
-fn broke_off(quiet: bool, s: Session, end: End) -> Led
-    ensures { λ r. ⌜ r .well ≡ false ⌝ }
+fn broke_off(quiet: bool, c: Cluster, end: End) -> Led
+    ensures { λ r. ⌜ r ≡ record { cluster = c; well = false } ⌝ }
 {
     match end {
         End::CannotWrite => say::cannot_write(),
         _ => say::cannot_read(quiet),
     }
-    let c = s.cluster;
     Led {
         cluster: c,
         well: false,
@@ -175,11 +176,28 @@ fn answered(quiet: bool, c: Cluster) -> Led
     let mut out = [0; ROOM];
     let p = drain(quiet, replay::begin(c), &mut out);
     let d = p.session;
+    let last = d.cluster;
     let end = p.end;
     let End::Input = end else {
-        return broke_off(quiet, d, end);
+        return broke_off(quiet, last, end);
     };
     ended(quiet, d, &mut out)
+}
+
+// All of standard input, traced from the record on; the record after it.
+fn traced(w: Wanted, c: Cluster) -> Led
+    ensures { λ r. ⌜ TracedAll c r ⌝ }
+{
+    let t = follow::follow(w, c);
+    let d = t.cluster;
+    let end = t.end;
+    let End::Input = end else {
+        return broke_off(false, d, end);
+    };
+    Led {
+        cluster: d,
+        well: true,
+    }
 }
 
 // The record that a run begins with: one that is loaded, or the one before the first start.
@@ -211,6 +229,14 @@ fn run_through(o: Orders) -> Led
         return l;
     }
     let c = l.cluster;
+    if o.trace {
+        let w = Wanted {
+            brief: o.brief,
+            before: o.before,
+            last: o.last,
+        };
+        return traced(w, c);
+    }
     answered(is_quiet(o), c)
 }
 

@@ -25,7 +25,7 @@ pub(crate) fn time(words: &[u8], t: Time) {
 
 pub(crate) fn unknown_orders() {
     say(
-        b"replay: nothing is done: descriptor 7 has orders that this program doesn't know; it knows a line of 8 characters 0-9 a-f that begins with 0, or nothing at all\n",
+        b"replay: nothing is done: descriptor 7 has orders that this program doesn't know; it knows a line of 24 characters 0-9 a-f that begins with 0 to 3, or nothing at all\n",
     );
 }
 

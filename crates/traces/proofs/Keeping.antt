@@ -22,13 +22,13 @@ use Rattle.traces.specs.Writing.{nothingKept, keptWith, keptAfter, keptO
 use Rattle.traces.proofs.Texts.{pair-text}
 
 -- k is what is kept of the part p of a line
-record Keeps (k : CutLine) (p : List ℕ) : Type 0 where
-  slots : length (k .held) ≡ mostShown
-  fill : k .fill ≡ min (length p) mostShown
-  held : heldIn k ≡ take mostShown p
-  more : k .more ≡ min (length p - mostShown) mostCounted
+pub record Keeps (k : CutLine) (p : List ℕ) : Type 0 where
+  pub slots : length (k .held) ≡ mostShown
+  pub fill : k .fill ≡ min (length p) mostShown
+  pub held : heldIn k ≡ take mostShown p
+  pub more : k .more ≡ min (length p - mostShown) mostCounted
 
-keeps-none : Keeps nothingKept []
+pub keeps-none : Keeps nothingKept []
 keeps-none = record { slots = refl; fill = refl; held = refl; more = refl }
 
 -- one more, as far as a number goes
@@ -70,7 +70,7 @@ module _ (k : CutLine) (p : List ℕ) (b : ℕ) (h : Keeps k p) where
         more = ap oneMore (h .more) ∙ one-more (length p) l ∙ ap (λ (n : ℕ). min (n - mostShown) mostCounted) (sym longer);
       })
 
-  keeps-with : Keeps (keptWith k b) (p ++ (b ∷ []))
+  pub keeps-with : Keeps (keptWith k b) (p ++ (b ∷ []))
   keeps-with = ⊎-elim with-room without (lt-or-le (length p) mostShown)
 
 -- what is kept after a text is that of the part of a line after its last line feed
@@ -86,7 +86,7 @@ keeps-over k p (b ∷ text) h =
     go false y n = n
 
 -- and its pair is the line as it is shown, and its answer
-pair-is : (k : CutLine) (p : List ℕ) (a : Answer) → Keeps k p → textIn (pairMade k a) ≡ pairLine p a
+pub pair-is : (k : CutLine) (p : List ℕ) (a : Answer) → Keeps k p → textIn (pairMade k a) ≡ pairLine p a
 pair-is k p a h =
     pair-text k a (omega (arith, h .fill))
     ∙ rw (h .held, h .more) (append-shown (shownBytes (take mostShown p)) (shownMore (min (length p - mostShown) mostCounted)))

@@ -3,19 +3,19 @@ use native.Mathlib.Omega.{arith}
 use lib.ListN.{length}
 use mathlib.Core.Path.{_≡_, refl}
 use borrow.Author.Needs.{needs}
-use Rattle.lines.proofs.Turns.{over}
-use Rattle.shell.proofs.Loop.{Going, begins, goes-on, stops, gives-up-at}
+use Rattle.lines.proofs.Turns.{over, GoingBy, begins-by, goes-on-by, stops-by, gives-up-by}
+use Rattle.replay.specs.Pieces.{runs}
 use Rattle.shell.proofs.drain.Statement.{statement}
 use Rattle.shell.proofs.drain.Tie as tie
 
 abbrev Inv-loop : tie.InvT-loop
-Inv-loop quiet out₀ d₀ turns₀ out d turns = (length out ≡ length out₀) × Going d₀ d turns
+Inv-loop quiet out₀ d₀ turns₀ out d turns = (length out ≡ length out₀) × GoingBy runs d₀ d turns
 
 abbrev μ-loop : tie.MeasureT-loop
 μ-loop quiet out₀ d₀ turns₀ out d turns = turns
 
 loop-holds : tie.Need-loop-holds Inv-loop μ-loop
-loop-holds c = (refl, begins _)
+loop-holds c = (refl, begins-by runs _)
 
 slice-aggregate-read : tie.Need-slice-aggregate-read Inv-loop μ-loop
 slice-aggregate-read c = search needs
@@ -39,7 +39,7 @@ returns : tie.Need-returns Inv-loop μ-loop
 returns c =
     let turned = c .before .before .before .before in
     let going = turned .before .before .before .before .before .before .before in
-    stops _ _ _ _ _ (turned .turn .result) (going .loop .inv .1) (turned .turn .ensures) (turned .before .before .before .before .before .before .loop-test .taken)
+    stops-by runs _ _ _ _ _ _ _ (going .loop .inv .1) (turned .turn .ensures) (turned .before .before .before .before .before .before .loop-test .taken)
     (over _ (c .match .keys2))
 
 sub-turns : tie.Need-sub-turns Inv-loop μ-loop
@@ -53,7 +53,7 @@ loop-again c =
     let turned = c .before .before .before .before .before in
     let going = turned .before .before .before .before .before .before .before in (
       omega (arith, turned, going),
-      goes-on _ _ _ _ _ (turned .turn .result) (going .loop .inv .1) (turned .turn .ensures) (turned .before .before .before .before .before .before .loop-test .taken),
+      goes-on-by runs _ _ _ _ _ _ _ (going .loop .inv .1) (turned .turn .ensures) (turned .before .before .before .before .before .before .loop-test .taken),
     )
 
 same-length-2 : tie.Need-same-length-2 Inv-loop μ-loop
@@ -61,7 +61,7 @@ same-length-2 c = search needs
 
 returns-2 : tie.Need-returns-2 Inv-loop μ-loop
 returns-2 c =
-    gives-up-at _ _ _ (c .loop-test .left) (c .before .loop .inv .1)
+    gives-up-by runs _ _ _ (c .loop-test .left) (c .before .loop .inv .1)
 
 pub drain-spec : {M : Type 1} → statement M
 drain-spec =

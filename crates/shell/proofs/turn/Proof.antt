@@ -1,14 +1,19 @@
 -- `shell::turn` meets its contract. Assumes nothing.
-use Rattle.shell.proofs.Loop.{turned-end, turned-failed, turned-piece}
+use mathlib.Core.Path.{refl, ap, _∙_}
+use lib.ListN.{length}
+use lib.IntN.{ℤ}
+use Rattle.io.specs.Counts.{clamped}
+use Rattle.lines.proofs.Turns.{turned-end, turned-failed, turned-piece}
+use Rattle.replay.specs.Pieces.{runs}
 use borrow.Author.Needs.{needs}
 use Rattle.shell.proofs.turn.Statement.{statement}
 use Rattle.shell.proofs.turn.Tie as tie
 
 returns : tie.Need-returns
-returns c = turned-end _ _ _ (c .before .before .before .fits .got) (c .if1 .taken)
+returns c = let s = c .before .before .before in turned-end runs (s .args .s) refl _ _ (s .fits .got) (c .if1 .taken)
 
 returns-2 : tie.Need-returns-2
-returns-2 c = turned-failed _ _ _ (c .before .before .before .before .fits .got) (c .if2 .taken)
+returns-2 c = let s = c .before .before .before .before in turned-failed runs (s .args .s) refl _ _ (s .fits .got) (c .if2 .taken)
 
 count-requires : tie.Need-count-requires
 count-requires c κs = search needs
@@ -25,8 +30,10 @@ same-length c = search needs
 returns-3 : tie.Need-returns-3
 returns-3 c =
     let counted = c .before .before .before .before .before in
-    turned-piece _ _ _ (counted .before .before .before .before .before .fits .got) _ _ (counted .before .before .if1 .left)
-    (counted .before .if2 .left) (counted .count .ensures .1) (c .before .before .pour .ensures .0)
+    let s = counted .before .before .before .before .before in
+    let p = c .before .before .pour .ensures .0 in
+    turned-piece runs (s .args .s) refl _ _ (s .fits .got) _ _ _ (p .wrote) (counted .before .before .if1 .left) (counted .before .if2 .left)
+    (λ k z. counted .count .ensures .1 ∙ ap (λ (y : ℤ). clamped y (length (s .args .buffer .now))) z) (p .session) (p .end)
 
 pub turn-spec : {M : Type 1} → statement M
 turn-spec =
