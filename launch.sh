@@ -114,13 +114,13 @@ end_all() (
 
 # Takes a signal: nothing is left that goes on reading.
 signalled() {
-    trap '' HUP INT TERM
+    trap '' HUP INT QUIT TERM
     [ -z "$child" ] || end_all "$child"
     die "ended by a signal ($1)"
 }
 
 child=
-for signal in HUP INT TERM; do trap "signalled $signal" "$signal"; done
+for signal in HUP INT QUIT TERM; do trap "signalled $signal" "$signal"; done
 
 # Runs what is named beside the launcher, which waits for it, and meanwhile takes signals. The status is that of what was run. (The shell
 # takes standard input from what goes on beside it, so that comes by x.)
