@@ -42,13 +42,19 @@ module _ (v : Seen) (ack : Acks) (i t : ℕ) where
 pub acked-inv : {𝓠 : Quorums} {v : Seen} {g : Leads} {ack : Acks} → Inv 𝓠 v g ack → Inv 𝓠 v g (acked v ack)
 acked-inv {𝓠} {v} {ack = ack} inv =
     moves-inv inv
-    (record { rests = λ i. rests-refl; acksGrow = acked-grow v ack; acksOwn = acked-own v ack; settled = still })
+    (record {
+      rests = λ i. rests-refl;
+      acksGrow = acked-grow v ack;
+      acksOwn = acked-own v ack;
+      settled = λ i. still (inv .settled i);
+      marked = λ i. still (inv .marked i);
+    })
   where
-    still : (i : ℕ) → Settled 𝓠 (acked v ack) (v i) (v i .commit)
-    still i =
-        let c = inv .settled i in
-        let t = v i .log (v i .commit) .term in
-        record { within = c .within; chosen = 𝓠 .more _ _ (λ j k. omega (arith, acked-grow v ack j t)) (c .chosen) }
+    -- what is settled stays so
+    still : {i k : ℕ} → Settled 𝓠 ack (v i) k → Settled 𝓠 (acked v ack) (v i) k
+    still {i} {k} c =
+        let t = v i .log k .term in
+        record { within = c .within; chosen = 𝓠 .more _ _ (λ j h. omega (arith, acked-grow v ack j t)) (c .chosen) }
 
 -- servers have acknowledged what they have, and whatever anybody was told of them
 pub record Vouched (m : Told) (v : Seen) (ack : Acks) : Type 0 where

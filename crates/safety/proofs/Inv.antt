@@ -8,7 +8,7 @@ use native.Mathlib.Decide.{decLe, ℕ-discrete}
 use native.Mathlib.Omega.{arith}
 use Rattle.safety.specs.Quorum.{Quorums}
 use Rattle.safety.specs.Cluster.{LogSeen, Agree, ServerSeen, Seen, lastTermSeen, Holds, Upto, NotBehind, Others}
-use Rattle.safety.specs.Steps.{Copies, pulls, rollsBack}
+use Rattle.safety.specs.Steps.{Copies, pulls, rollsBack, takesOver}
 use Rattle.safety.proofs.Leads.{Leads, Rooted, Pair, Tree, term-of, rooted-pair, rooted-down, terms-rise, Grown, old-pair}
 
 -- n < ack i t says that server i once had, while its term and its last term were t, a log of n entries or more
@@ -19,7 +19,7 @@ Acks = ℕ → ℕ → ℕ
 abbrev pub Chosen : Quorums → Acks → ℕ → ℕ → Type 0
 Chosen 𝓠 ack t n = 𝓠 .Most (λ i. n < ack i t)
 
--- position k of s's log is settled: a commit point may stand there
+-- position k of s's log is settled: a commit point or a mark may stand there
 pub record Settled (𝓠 : Quorums) (ack : Acks) (s : ServerSeen) (k : ℕ) : Type 0 where
   pub within : k ≤ s .len
   pub chosen : Chosen 𝓠 ack (s .log k .term) k
@@ -59,8 +59,8 @@ pub record Inv (𝓠 : Quorums) (v : Seen) (g : Leads) (ack : Acks) : Type 0 whe
   pub kept : (t n u : ℕ) → Open 𝓠 v g ack t n → t < u → 0 < g .size u → Has n (g .lead t) (g .lead u) (g .size u)
   pub held : (t n i : ℕ) → Open 𝓠 v g ack t n → n < ack i t → Upto t n (lastTermSeen (v i)) (v i .len)
   pub settled : (i : ℕ) → Settled 𝓠 ack (v i) (v i .commit)
-  -- the empty log is settled everywhere: a restart goes back to it
-  pub base : Chosen 𝓠 ack 0 0
+  -- marks are settled too: a restart goes back to them
+  pub marked : (i : ℕ) → Settled 𝓠 ack (v i) (v i .mark)
 
 -- ---- with no invariant
 
@@ -140,25 +140,28 @@ module _ {𝓠 : Quorums} {v : Seen} {g : Leads} {ack : Acks} (inv : Inv 𝓠 v 
   kept-lead t n u o h z =
       by-cases (ℕ-discrete u t) (λ e. rw e (o .pair .inside, λ k kn. refl)) (λ ne. inv .kept t n u o (omega arith) z)
 
-  -- a server holds an open pair where its last term and length say so
-  pub reach : (t n i : ℕ) → Open 𝓠 v g ack t n → Upto t n (lastTermSeen (v i)) (v i .len) → Holds n (g .lead t) (v i)
-  reach t n i o h =
-      record { long = long; same = λ k kn. own-lead .along k (omega (arith, long)) ∙ K .1 k kn }
+  -- a log that ends before an open pair is of no later term: a lead of such a term has the pair, and up to it no term above the pair's
+  ends-before : (t n i : ℕ) → Open 𝓠 v g ack t n → v i .len < n → lastTermSeen (v i) ≤ t
+  ends-before t n i o l = by-cases (decLe (lastTermSeen (v i)) t) (λ y. y) (λ y. past (omega arith))
     where
       own-lead : Rooted g (v i .log) (v i .len)
       own-lead = inv .own i
 
-      K : Has n (g .lead t) (g .lead (lastTermSeen (v i))) (g .size (lastTermSeen (v i)))
-      K = kept-lead t n (lastTermSeen (v i)) o (h .le) (omega (arith, own-lead .inside))
-
-      -- a log that ends before n ends on lead t, with a term not above t
-      short : v i .len < n → lastTermSeen (v i) ≤ t
-      short l =
+      past : t < lastTermSeen (v i) → lastTermSeen (v i) ≤ t
+      past lt =
+          let K = inv .kept t n (lastTermSeen (v i)) o lt (omega (arith, own-lead .inside)) in
           let e = term-of (own-lead .along (v i .len) (omega arith) ∙ K .1 (v i .len) (omega arith)) in
           omega (arith, inv .tree .below t (v i .len) (omega (arith, o .pair .inside)))
 
+  -- a server holds an open pair where its last term and length say so
+  pub reach : (t n i : ℕ) → Open 𝓠 v g ack t n → Upto t n (lastTermSeen (v i)) (v i .len) → Holds n (g .lead t) (v i)
+  reach t n i o h =
+      let own-lead = inv .own i in
+      let K = kept-lead t n (lastTermSeen (v i)) o (h .le) (omega (arith, own-lead .inside)) in
+      record { long = long; same = λ k kn. own-lead .along k (omega (arith, long)) ∙ K .1 k kn }
+    where
       long : n ≤ v i .len
-      long = by-cases (decLe n (v i .len)) (λ y. y) (λ y. h .eq (short (omega arith)))
+      long = by-cases (decLe n (v i .len)) (λ y. y) (λ y. h .eq (ends-before t n i o (omega arith)))
 
   -- two chosen beginnings agree on the shorter
   pub chosen-agree : (t n u m k : ℕ) → Open 𝓠 v g ack t n → Open 𝓠 v g ack u m → k ≤ n → k ≤ m → Agree k (g .lead t) (g .lead u)
@@ -183,3 +186,8 @@ module _ {𝓠 : Quorums} {v : Seen} {g : Leads} {ack : Acks} (inv : Inv 𝓠 v 
   may-copy a b (pulls h e) =
       record { le = omega (arith, term-of e, terms-rise (inv .tree) (inv .own b) (v a .len) h); eq = λ k. h }
   may-copy a b (rollsBack h) = record { le = omega arith; eq = λ k. absurd (omega arith) }
+  may-copy a b (takesOver h) =
+      let c = inv .marked b in
+      let low = ends-before _ (v b .mark) a (settled-open b (v b .mark) c) h in
+      let up = terms-rise (inv .tree) (inv .own b) (v b .mark) (c .within) in
+      record { le = omega arith; eq = λ k. omega (arith, c .within) }

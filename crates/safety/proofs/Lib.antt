@@ -15,6 +15,7 @@ pub mod Takes
 pub mod Reached
 pub mod Demand3
 pub mod Joins
+pub mod Cut
 pub mod NewestSeen
 pub mod Views
 pub mod SeenQuiet

@@ -11,7 +11,7 @@ use Rattle.safety.specs.Cluster.{root, Seen}
 use Rattle.safety.specs.Told.{Told, ClusterSeen}
 use Rattle.safety.specs.Steps.{Goes, elects, writes, takes, quiet, passes, StepSeen, FreshServers, Fresh, Walk, stop, go}
 use Rattle.safety.proofs.Leads.{Leads, Grown, grown-refl, grown-trans}
-use Rattle.safety.proofs.Inv.{Acks, Onward, Inv, onward-trans}
+use Rattle.safety.proofs.Inv.{Acks, Settled, Onward, Inv, onward-trans}
 use Rattle.safety.proofs.Moves.{rests-refl, rests-onward}
 use Rattle.safety.proofs.Quiet.{quiet-inv}
 use Rattle.safety.proofs.Acked.{acked, acked-grow, acked-own, acked-inv, Vouched, acked-vouched}
@@ -77,13 +77,14 @@ module _ (𝓠 : Quorums) {v : Seen} (f : FreshServers v) where
               acks = λ i t. omega arith;
               kept = λ t n u o lt h. absurd (omega (arith, first-only u 0 h));
               held = λ t n i o h. record { le = omega (arith, first-only t n h); eq = λ k. omega (arith, first-only t n h) };
-              settled = λ i. rw (f .commit i) (record { within = omega arith; chosen = rw (f .log i) base });
-              base = base;
+              settled = λ i. empty i (f .commit i);
+              marked = λ i. empty i (f .mark i);
             };
       }
     where
-      base : 𝓠 .Most (λ i. 0 < first 0)
-      base = 𝓠 .more _ _ (λ j x. omega arith) (𝓠 .all)
+      -- the empty log is settled everywhere
+      empty : (i : ℕ) {k : ℕ} → k ≡ 0 → Settled 𝓠 (λ j. first) (v i) k
+      empty i e = rw e (record { within = omega arith; chosen = rw (f .log i) (𝓠 .more _ _ (λ j x. omega arith) (𝓠 .all)) })
 
 fresh-all : (𝓠 : Quorums) {x : ClusterSeen} → Fresh x → KnownAll 𝓠 x
 unfolding fresh-known

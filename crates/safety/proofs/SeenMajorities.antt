@@ -60,7 +60,7 @@ of-member m i b e h = ⊎-elim (λ x. not-both (member m i) e (not-true (member 
 module _ (a m t i : ℕ) (s : Server) where
   voted-in : member m i ≡ true → Voted (seenServer s) (seenServer (votedOf a m t i s)) t
   unfolding votedOf
-  voted-in e = rw e (record { keeps = record { len = refl; log = refl }; commit = refl; term = refl })
+  voted-in e = rw e (record { keeps = record { len = refl; log = refl }; commit = refl; mark = refl; term = refl })
 
   voted-role : member m i ≡ true → votedOf a m t i s .head .primary ≡ true → i ≡ a
   unfolding votedOf
@@ -102,7 +102,7 @@ backing c a n i some e = go (or-cases (eqb i a) _ e)
 
 -- a position that passes, as facts
 record Passing (size f : ℕ) (s : Server) (a n : ℕ) : Type 0 where
-  above : 1 ≤ n
+  above : s .head .commit < n
   within : n ≤ lengthOf (s .log)
   current : entryAt (live (s .log)) n .term ≡ s .head .term
   enough : mostOf (voters size f) (backers size f s a n) ≡ true
@@ -113,7 +113,7 @@ passing {s = s} {n = n} e =
     let r = and-right (ltb (s .head .commit) n) _ e in
     let q = and-right (leb n (lengthOf (s .log))) _ r in
     record {
-      above = omega (arith, ltb-true (s .head .commit) n (and-left _ _ e));
+      above = ltb-true (s .head .commit) n (and-left _ _ e);
       within = leb-true n (lengthOf (s .log)) (and-left _ _ r);
       current = eqb-true (entryAt (live (s .log)) n .term) (s .head .term) (and-left _ _ q);
       enough = and-right (eqb (entryAt (live (s .log)) n .term) (s .head .term)) _ q;
@@ -163,11 +163,13 @@ module _ {𝓠 : Quorums} (c : Cluster) (f : Fits c) (most : (P : ℕ → Type 0
       T.passes a n
       (record {
         within = p .within;
+        above = omega (arith, p .above);
         current = p .current;
-        quorum = most _ (record { members = backs s a n; enough = p .enough; hold = λ i l e. backing c a n i (p .above) (and-right (votes (c .followers) i) _ e) });
+        quorum = most _ (record { members = backs s a n; enough = p .enough; hold = λ i l e. backing c a n i (omega (arith, p .above)) (and-right (votes (c .followers) i) _ e) });
         keeps = record { len = ap (λ (x : ServerSeen). x .len) q; log = ap (λ (x : ServerSeen). x .log) q };
         term = ap (λ (x : ServerSeen). x .term) q;
         role = ap (λ (x : ServerSeen). x .primary) q;
         commit = ap (λ (x : ServerSeen). x .commit) q;
+        mark = ap (λ (x : ServerSeen). x .mark) q;
         others = others c f a (h .0) o;
       })

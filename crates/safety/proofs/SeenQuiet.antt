@@ -5,7 +5,7 @@ use mathlib.Core.Bool.{Bool, true, false, cond}
 use Prim.Native.Nat.{ℕ}
 use native.Mathlib.Omega.{arith}
 use lib.Dec.{ltb}
-use borrow.Author.Tests.{ltb-false, not-true}
+use borrow.Author.Tests.{ltb-true, ltb-false, not-true}
 use Rattle.base.proofs.Bools.{and-left, and-right, not-both}
 use Rattle.clock.specs.declared.Time.{Time}
 use Rattle.log.proofs.Equal.{equal-at}
@@ -30,7 +30,7 @@ use Rattle.wholes.specs.ClocksAgree.{greatestClock}
 use Rattle.rules.specs.Rules.{putBack, rowOf, rulesOf, doneOf}
 use Rattle.safety.specs.Quorum.{Quorums}
 use Rattle.safety.specs.Cluster.{ServerSeen}
-use Rattle.safety.specs.Steps.{Settles, stays, restarts, hears, Rests, Goes}
+use Rattle.safety.specs.Steps.{Settles, stays, restarts, hears, unmoved, Rests, Goes}
 use Rattle.safety.specs.View.{seenEntry, seenServer, view, toldIn}
 use Rattle.safety.proofs.Joins.{alone, unchanged}
 use Rattle.safety.proofs.Views.{here, others, not-shown, changed-view}
@@ -66,18 +66,19 @@ heard-settles c a b = go (takesCommit (serverAt c a) (serverAt c b)) refl
   where
     go : (x : Bool) → takesCommit (serverAt c a) (serverAt c b) ≡ x → Settles (view c) a (cond x (serverAt c b .head .commit) (serverAt c a .head .commit))
     go true e =
+        let l = ltb-true (serverAt c a .head .commit) (serverAt c b .head .commit) (and-left _ _ e) in
         let q = equal-at _ _ (serverAt c b .head .commit) (and-right (ltb (serverAt c a .head .commit) (serverAt c b .head .commit)) _ e) in
-        hears b refl (q .left) (ap seenEntry (q .same))
+        hears b refl (omega arith) (q .left) (ap seenEntry (q .same))
     go false e = stays refl
 
 -- a server that is secondary afterwards, whatever its commit point
-lowered : (r : ServerSeen) (k : ℕ) → Rests r (record { len = r .len; log = r .log; term = r .term; primary = false; commit = k })
+lowered : (r : ServerSeen) (k : ℕ) → Rests r (record { len = r .len; log = r .log; term = r .term; primary = false; commit = k; mark = r .mark })
 lowered r k = record { keeps = record { len = refl; log = refl }; raised = omega arith; role = λ p. not-both false p refl; unraised = λ p. refl }
 
 module _ {𝓠 : Quorums} (c : Cluster) (f : Fits c) where
   quietly : (a : ℕ) → ltb a (serverCount c) ≡ true → (o : Stepped) → Rests (view c a) (seenServer (o .server))
       → Settles (view c) a (o .server .head .commit) → Goes 𝓠 (toldIn c) (view c) (view (putBack c a o .cluster))
-  quietly a l o r t = alone (others c f a l o) (rw (here c f a l o) (record { rests = r; settles = t }))
+  quietly a l o r t = alone (others c f a l o) (rw (here c f a l o) (record { rests = r; settles = t; marks = unmoved refl }))
 
   pub sees-down : (a : ℕ) → Sees 𝓠 c (StepDown a)
   unfolding rowOf

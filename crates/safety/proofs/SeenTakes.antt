@@ -60,6 +60,7 @@ took c f a b l secondary g v may len log =
       term = ap (λ (x : ServerSeen). x .term) h;
       role = ap (λ (x : ServerSeen). x .primary) h;
       commit = ap (λ (x : ServerSeen). x .commit) h;
+      mark = inl (ap (λ (x : ServerSeen). x .mark) h);
       others = others c f a l o;
     })
 

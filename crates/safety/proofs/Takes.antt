@@ -1,9 +1,9 @@
 -- A pull or a rollback keeps the invariant (kinds 4 and 5).
 -- Assumes nothing.
 use mathlib.Core.Path.{_≡_, refl, ap, sym, _∙_}
-use mathlib.Core.Logic.{inl, by-cases}
+use mathlib.Core.Logic.{_⊎_, inl, inr, by-cases}
 use mathlib.Core.Bool.{true, false}
-use Prim.Native.Nat.{ℕ, _≤_, max}
+use Prim.Native.Nat.{ℕ, _≤_}
 use native.Mathlib.Decide.{decLe}
 use native.Mathlib.Omega.{arith}
 use Rattle.safety.specs.Quorum.{Quorums}
@@ -37,17 +37,15 @@ module _ {𝓠 : Quorums} {v v′ : Seen} {g : Leads} {ack : Acks} (inv : Inv �
   longer : NotBehind (v′ a) (v a)
   longer = rw (last-a, h .len) (may-copy inv a b (h .may))
 
-  -- a's commit point is b's, or its own, and b holds what that covers
-  settled-a : (k : ℕ) → k ≡ max (v a .commit) (v b .commit) → Settled 𝓠 ack (v′ a) k
-  settled-a k e = by-cases (decLe (v a .commit) (v b .commit)) (λ y. theirs (omega arith)) (λ y. ours (omega arith))
-    where
-      theirs : k ≡ v b .commit → Settled 𝓠 ack (v′ a) k
-      theirs q = rw q (settled-holds (handed (record { long = inv .settled b .within; same = λ j jk. refl })) (inv .settled b))
+  -- what was settled in a's log or is in b's is settled in a's afterwards, since b holds both
+  settled-a : {i j k : ℕ} → Settled 𝓠 ack (v a) i → Settled 𝓠 ack (v b) j → (k ≡ i) ⊎ (k ≡ j) → Settled 𝓠 ack (v′ a) k
+  settled-a {i} x y (inl q) = rw q (settled-holds (handed (not-lost inv a b i (may-copy inv a b (h .may)) x)) x)
+  settled-a x y (inr q) = rw q (settled-holds (handed (record { long = y .within; same = λ n l. refl })) y)
 
-      ours : k ≡ v a .commit → Settled 𝓠 ack (v′ a) k
-      ours q =
-          let c = inv .settled a in
-          rw q (settled-holds (handed (not-lost inv a b (v a .commit) (may-copy inv a b (h .may)) c)) c)
+  commit-a : (v′ a .commit ≡ v a .commit) ⊎ (v′ a .commit ≡ v b .commit)
+  commit-a =
+      let e = h .commit in
+      by-cases (decLe (v a .commit) (v b .commit)) (λ y. inr (omega arith)) (λ y. inl (omega arith))
 
   -- a is no primary, and every primary is unchanged
   primaries : (i : ℕ) → v′ i .primary ≡ true → v′ i ≡ v i
@@ -76,6 +74,6 @@ module _ {𝓠 : Quorums} {v v′ : Seen} {g : Leads} {ack : Acks} (inv : Inv �
         kept = λ t n u o. inv .kept t n u (was o);
         held = λ t n i o k. reaches (h .others) longer t n i (inv .held t n i (was o) k);
         settled =
-            λ i. replaced (h .others) (λ j s. Settled 𝓠 ack s (s .commit)) (settled-a _ (h .commit)) i (λ ne. inv .settled i);
-        base = inv .base;
+            λ i. replaced (h .others) (λ j s. Settled 𝓠 ack s (s .commit)) (settled-a (inv .settled a) (inv .settled b) commit-a) i (λ ne. inv .settled i);
+        marked = λ i. replaced (h .others) (λ j s. Settled 𝓠 ack s (s .mark)) (settled-a (inv .marked a) (inv .marked b) (h .mark)) i (λ ne. inv .marked i);
       }

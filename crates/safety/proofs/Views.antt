@@ -118,6 +118,7 @@ fresh-seen n f =
             term = λ i. ap (λ (s : ServerSeen). s .term) (fresh-view n f i);
             role = λ i. ap (λ (s : ServerSeen). s .primary) (fresh-view n f i);
             commit = λ i. ap (λ (s : ServerSeen). s .commit) (fresh-view n f i);
+            mark = λ i. ap (λ (s : ServerSeen). s .mark) (fresh-view n f i);
           };
       told = fresh-told n f;
     }

@@ -117,10 +117,9 @@ module _ {𝓠 : Quorums} {v v′ : Seen} {g : Leads} {ack : Acks} (inv : Inv �
       old ne =
           led-lead g t (v′ a) (LogOf (v i)) (v i .term) (λ q. absurd (ne (inv .one i a p (w .primary) q))) (λ x. inv .rule i p)
 
-  settled-a : (k : ℕ) → k ≡ v a .commit → Settled 𝓠 ack (v′ a) k
-  settled-a k q =
-      let c = inv .settled a in
-      rw q (settled-holds (record { long = omega (arith, c .within, w .len); same = λ j jk. w .kept j (omega (arith, c .within)) }) c)
+  -- what is settled in a's log stays so
+  settled-a : {k : ℕ} → Settled 𝓠 ack (v a) k → Settled 𝓠 ack (v′ a) k
+  settled-a c = settled-holds (record { long = omega (arith, c .within, w .len); same = λ j jk. w .kept j (omega (arith, c .within)) }) c
 
   own-a : Rooted g′ (v′ a .log) (v′ a .len)
   own-a = led-rooted leading (v′ a .len) (omega arith) last-a
@@ -138,6 +137,7 @@ module _ {𝓠 : Quorums} {v v′ : Seen} {g : Leads} {ack : Acks} (inv : Inv �
         kept = kept′;
         held = λ u n i o h. reaches (w .others) longer u n i (inv .held u n i (open-before inv writes-grown raised i h o) h);
         settled =
-            λ i. replaced (w .others) (λ j s. Settled 𝓠 ack s (s .commit)) (settled-a _ (w .commit)) i (λ ne. inv .settled i);
-        base = inv .base;
+            λ i. replaced (w .others) (λ j s. Settled 𝓠 ack s (s .commit)) (settled-a (rw (w .commit) (inv .settled a))) i (λ ne. inv .settled i);
+        marked =
+            λ i. replaced (w .others) (λ j s. Settled 𝓠 ack s (s .mark)) (settled-a (rw (w .mark) (inv .marked a))) i (λ ne. inv .marked i);
       }

@@ -1,4 +1,4 @@
--- The cluster as the safety theory sees it: a server for every number, each with its log, term, role and commit point.
+-- The cluster as the safety theory sees it: a server for every number, each with its log, term, role, commit point and mark.
 -- Assumes nothing.
 use mathlib.Core.Path.{_≡_}
 use mathlib.Core.Logic.{_≢_}
@@ -30,6 +30,8 @@ pub record ServerSeen : Type 0 where
   pub term : ℕ
   pub primary : Bool
   pub commit : ℕ
+  -- the dropped position: entries up to it may be gone, and a restart goes back to it
+  pub mark : ℕ
 
 -- a view of the record: servers past the count are zero, and no quorum asks for them
 abbrev pub Seen : Type 0

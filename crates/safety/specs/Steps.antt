@@ -2,6 +2,7 @@
 -- Assumes nothing.
 use mathlib.Core.Path.{_≡_}
 use mathlib.Core.Bool.{Bool, true, false}
+use mathlib.Core.Logic.{_⊎_}
 use Prim.Native.Nat.{ℕ, suc, _≤_, _<_, max}
 use Rattle.safety.specs.Quorum.{Quorums}
 use Rattle.safety.specs.Cluster.{EntrySeen, root, Agree, ServerSeen, Seen, lastTermSeen, appliedTimeSeen, NotBehind, Others}
@@ -16,6 +17,7 @@ pub record SameLog (r s : ServerSeen) : Type 0 where
 pub record Voted (r s : ServerSeen) (t : ℕ) : Type 0 where
   pub keeps : SameLog r s
   pub commit : s .commit ≡ r .commit
+  pub mark : s .mark ≡ r .mark
   pub term : s .term ≡ t
 
 -- kind 1: the members elect a; that a is one of them is not needed
@@ -38,12 +40,14 @@ pub record Writes (v v′ : Seen) (a : ℕ) (e : EntrySeen) : Type 0 where
   pub term : v′ a .term ≡ v a .term
   pub role : v′ a .primary ≡ v a .primary
   pub commit : v′ a .commit ≡ v a .commit
+  pub mark : v′ a .mark ≡ v a .mark
   pub others : Others v v′ a
 
--- kinds 4 and 5: when s may take r's log; the root stands for the last entry of an empty log
+-- kinds 4 and 5: when s may take r's log; the root stands for the last entry of an empty log. A log that ends before r's mark may be any
 pub data Copies (s r : ServerSeen) : Type 0 where
   pulls : s .len ≤ r .len → s .log (s .len) ≡ r .log (s .len) → Copies s r
   rollsBack : lastTermSeen s < lastTermSeen r → Copies s r
+  takesOver : s .len < r .mark → Copies s r
 
 -- kinds 4 and 5: a takes b's log, which is what both rows leave
 pub record Takes (v v′ : Seen) (a b : ℕ) : Type 0 where
@@ -54,13 +58,21 @@ pub record Takes (v v′ : Seen) (a b : ℕ) : Type 0 where
   pub term : v′ a .term ≡ max (v a .term) (v b .term)
   pub role : v′ a .primary ≡ v a .primary
   pub commit : v′ a .commit ≡ max (v a .commit) (v b .commit)
+  -- its own, or b's where it takes over the dropped beginning too
+  pub mark : (v′ a .mark ≡ v a .mark) ⊎ (v′ a .mark ≡ v b .mark)
   pub others : Others v v′ a
 
--- where server i's commit point may go without a count: it stays, is lost at a restart, or is heard from b, with an equal entry there
+-- where server i's commit point may go without a count: it stays, goes back to the mark at a restart, or up to b's, which is heard, with an
+-- equal entry there
 pub data Settles (v : Seen) (i k : ℕ) : Type 0 where
   stays : k ≡ v i .commit → Settles v i k
-  restarts : k ≡ 0 → Settles v i k
-  hears : (b : ℕ) → k ≡ v b .commit → k ≤ v i .len → v i .log k ≡ v b .log k → Settles v i k
+  restarts : k ≡ v i .mark → Settles v i k
+  hears : (b : ℕ) → k ≡ v b .commit → v i .commit ≤ k → k ≤ v i .len → v i .log k ≡ v b .log k → Settles v i k
+
+-- where its mark may go: it stays, or up to an entry that the commit point covers, of the term of the one at the commit point (kind 17)
+pub data Marks (v : Seen) (i k : ℕ) : Type 0 where
+  unmoved : k ≡ v i .mark → Marks v i k
+  drops : v i .mark ≤ k → k ≤ v i .commit → v i .log k .term ≡ v i .log (v i .commit) .term → Marks v i k
 
 -- s is r afterwards: its log is kept, and where its term has risen it is no primary
 pub record Rests (r s : ServerSeen) : Type 0 where
@@ -69,25 +81,28 @@ pub record Rests (r s : ServerSeen) : Type 0 where
   pub role : s .primary ≡ true → r .primary ≡ true
   pub unraised : s .primary ≡ true → s .term ≡ r .term
 
--- kinds 2, 3 and 9, and those that the view does not show: s is server i afterwards
+-- kinds 2, 3, 9 and 17, and those that the view does not show: s is server i afterwards
 pub record Quiet (v : Seen) (i : ℕ) (s : ServerSeen) : Type 0 where
   pub rests : Rests (v i) s
   pub settles : Settles v i (s .commit)
+  pub marks : Marks v i (s .mark)
 
 -- kind 7: server i counts for position n with a, as a itself or by what was said of it
 pub data Counts (m : Told) (v : Seen) (a n i : ℕ) : Type 0 where
   itself : i ≡ a → Counts m v a n i
   reported : Said m i (v a .term) n → Counts m v a n i
 
--- kind 7: a's commit point goes to n, which passes; no other server is looked into
+-- kind 7: a's commit point goes up to n, which passes; no other server is looked into
 pub record Passes (𝓠 : Quorums) (m : Told) (v v′ : Seen) (a n : ℕ) : Type 0 where
   pub within : n ≤ v a .len
+  pub above : v a .commit ≤ n
   pub current : v a .log n .term ≡ v a .term
   pub quorum : 𝓠 .Most (Counts m v a n)
   pub keeps : SameLog (v a) (v′ a)
   pub term : v′ a .term ≡ v a .term
   pub role : v′ a .primary ≡ v a .primary
   pub commit : v′ a .commit ≡ n
+  pub mark : v′ a .mark ≡ v a .mark
   pub others : Others v v′ a
 
 -- what a step does to the servers, with all that was told before it
@@ -110,6 +125,7 @@ pub record FreshServers (v : Seen) : Type 0 where
   pub term : (i : ℕ) → v i .term ≡ 0
   pub role : (i : ℕ) → v i .primary ≡ false
   pub commit : (i : ℕ) → v i .commit ≡ 0
+  pub mark : (i : ℕ) → v i .mark ≡ 0
 
 -- a fresh cluster: nobody was told anything
 pub record Fresh (x : ClusterSeen) : Type 0 where

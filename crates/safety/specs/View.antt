@@ -18,7 +18,7 @@ use Rattle.safety.specs.Time.{stamp}
 abbrev pub seenEntry : Entry → EntrySeen
 seenEntry e = record { term = e .term; key = e .key; value = e .value; time = stamp (e .time) }
 
--- its log by positions: the zero entry, which stands at position 0, is seen as the root
+-- its log by positions: the zero entry, which stands at position 0, is seen as the root. No step of a record drops anything, so its mark is 0
 abbrev pub seenServer : Server → ServerSeen
 seenServer s =
     record {
@@ -27,6 +27,7 @@ seenServer s =
       term = s .head .term;
       primary = s .head .primary;
       commit = s .head .commit;
+      mark = 0;
     }
 
 abbrev pub view : Cluster → Seen
