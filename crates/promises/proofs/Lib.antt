@@ -1,6 +1,7 @@
 -- Every promise holds.
 -- Assumes nothing.
 pub mod Turns
+pub mod Holding
 pub mod Answered
 pub mod Demand3
 pub mod SeenNewest
