@@ -1,4 +1,4 @@
--- The same byte by byte, with what is kept of a line: what is in the buffer after a line, and where a run is. Nobody has to believe this: by `any-trace` it
+-- The same byte by byte, with what is kept of a line: what is in the buffer after a line, and where a run is. Nobody has to believe this: by `follows-trace` it
 -- comes to the trace of the text. Assumes nothing.
 use mathlib.Core.Path.{_≡_}
 use mathlib.Core.Bool.{cond}
