@@ -17,8 +17,8 @@ use Rattle.steps.specs.declared.Telling.{Telling}
 use Rattle.steps.specs.declared.Telling.TheVariants.{Numbers, Refusing}
 use Rattle.steps.specs.Refusals.{refusal_number}
 use Rattle.base.specs.Numbers.{byte}
-use Rattle.hex.specs.Lines.{bytes_of, hex_of}
-use Rattle.hex.proofs.Trips.{Bytes, bytes_below, byte_below}
+use Rattle.hex_text.specs.Lines.{bytes_of, hex_of}
+use Rattle.hex_text.proofs.Trips.{Bytes, bytes_below, byte_below}
 use Rattle.answers.specs.declared.ReadAnswer.TheVariants as R
 use Rattle.words.specs.Words.{byte_at, word_at}
 use Rattle.answers.specs.Answers.{answer_bytes, done, answer_frame, bytes_of_telling, numbered, refusals, refusal_of, telling_by, telling_in, read_answer, write_telling}

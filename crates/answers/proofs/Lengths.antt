@@ -5,8 +5,8 @@ use native.Mathlib.Omega.{arith}
 use lib.ListN.{length}
 use Rattle.steps.specs.declared.Telling.{Telling}
 use Rattle.steps.specs.declared.Telling.TheVariants.{Numbers, Refusing}
-use Rattle.hex.specs.Lines.{chars}
-use Rattle.hex.proofs.Places.{hex_length}
+use Rattle.hex_text.specs.Lines.{chars}
+use Rattle.hex_text.proofs.Places.{hex_length}
 use Rattle.answers.specs.Answers.{answer_bytes, answer_frame, bytes_of_telling, write_telling}
 
 pub telling_length : (t : Telling) → length (bytes_of_telling t) ≡ answer_bytes

@@ -9,7 +9,7 @@ use Rattle.steps.specs.declared.Telling.{Telling}
 use Rattle.steps.specs.declared.Telling.TheVariants.{Numbers, Refusing}
 use Rattle.steps.specs.Refusals.{refusal_number}
 use Rattle.steps.specs.Answers.{telling_of}
-use Rattle.hex.specs.Lines.{hex_of}
+use Rattle.hex_text.specs.Lines.{hex_of}
 use Rattle.answers.specs.declared.ReadAnswer.{ReadAnswer}
 use Rattle.answers.specs.declared.ReadAnswer.TheVariants as R
 use Rattle.words.specs.Words.{high_of, low_of, byte_at, word_at, framed}

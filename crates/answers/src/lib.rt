@@ -1,4 +1,6 @@
 // Answer frames: lines of hexadecimal, read and written by one layout.
+#![tactic(auto)]
+
 ghost use Rattle.std.specs.Prelude.{◌≡◌};
 ghost use Rattle.steps.specs.Refusals.{refusal_number};
 ghost use Rattle.answers.specs.Answers.{answer_frame, refusal_byte, bytes_of_telling, refusal_of, telling_by, telling_in, read_answer, write_answer};
@@ -8,7 +10,7 @@ use steps::{Answer, Refusal, Telling};
 use words::{high, low, word};
 
 // What an answer line is read as: what it tells, or no frame.
-#[derive(Drop)]
+#[derive(Clone, Copy)]
 pub enum ReadAnswer {
     Telling(Telling),
     NoFrame,
@@ -17,7 +19,7 @@ pub enum ReadAnswer {
 const ANSWER_BYTES: usize = 9;
 
 // How many characters an answer frame has.
-pub const ANSWER_CHARS: usize = hex::CHARS * ANSWER_BYTES;
+pub const ANSWER_CHARS: usize = hex_text::CHARS * ANSWER_BYTES;
 
 // The first byte of an answer that is no refusal.
 const DONE: u8 = 0;
@@ -101,7 +103,7 @@ pub fn write_answer(a: Answer) -> [u8; ANSWER_CHARS]
 {
     let b = bytes_of_telling(steps::told(a));
     let mut out = [0u8; ANSWER_CHARS];
-    hex::enhex(&b, &mut out);
+    hex_text::enhex(&b, &mut out);
     out
 }
 
@@ -155,10 +157,10 @@ pub fn read_answer(line: &[u8]) -> ReadAnswer
     if line.len() != ANSWER_CHARS {
         return ReadAnswer::NoFrame;
     }
-    if !hex::all_hex(line) {
+    if !hex_text::all_hex(line) {
         return ReadAnswer::NoFrame;
     }
     let mut b = [0u8; ANSWER_BYTES];
-    hex::unhex(line, &mut b);
+    hex_text::unhex(line, &mut b);
     telling_in(b)
 }

@@ -5,10 +5,10 @@ use mathlib.Core.List.{List, [], ◌∷◌}
 use Rattle.base.specs.Numbers.{highest}
 use Prim.Native.Nat.{ℕ}
 use Rattle.clock.specs.Times.{is_before}
-use Rattle.log.specs.declared.Entry.{Entry}
-use Rattle.log.specs.Entries.{entry_at, has_entry, latest_value}
-use Rattle.log.specs.Rows.{latest_after, value_for}
-use Rattle.log.specs.Logs.{may_ask}
+use Rattle.server_log.specs.declared.Entry.{Entry}
+use Rattle.server_log.specs.Entries.{entry_at, has_entry, latest_value}
+use Rattle.server_log.specs.Rows.{latest_after, value_for}
+use Rattle.server_log.specs.Logs.{may_ask}
 use Rattle.cluster.specs.Servers.{fresh_server}
 use Rattle.steps.specs.declared.Answer.{Answer}
 use Rattle.steps.specs.declared.Answer.TheVariants.{Entry as Told, Value, Refused}

@@ -7,9 +7,9 @@ use lib.ListN.{replicate}
 use Rattle.base.specs.Numbers.{every, count, highest}
 use Rattle.base.specs.Lists.{each_from}
 use Rattle.clock.specs.Times.{zero_time, is_before, same_time}
-use Rattle.log.specs.Entries.{same_entry, entry_at, latest_value}
-use Rattle.log.specs.Order.{entry_ok, follows, place_ok, in_order, rest_zero, is_empty_log, log_ok}
-use Rattle.log.specs.Rows.{row_ok, rows_ok, zero_rows, value_for, latest_after}
+use Rattle.server_log.specs.Entries.{same_entry, entry_at, latest_value}
+use Rattle.server_log.specs.Order.{entry_ok, follows, place_ok, in_order, rest_zero, is_empty_log, log_ok}
+use Rattle.server_log.specs.Rows.{row_ok, rows_ok, zero_rows, value_for, latest_after}
 use Rattle.mail.specs.Reports.{zero_note, note_of}
 use Rattle.mail.specs.Mails.{zero_mail, note_at, with_source}
 use Rattle.mail.specs.Order.{is_unused, is_used, note_ok, notes_ok, slot_ok, queue_ok, source_ok, mail_ok}

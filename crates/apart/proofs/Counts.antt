@@ -4,9 +4,9 @@ use mathlib.Core.Bool.{true, false}
 use mathlib.Core.List.{List, [], ◌∷◌}
 use Rattle.base.specs.Numbers.{count, highest}
 use Rattle.base.specs.Lists.{each_from}
-use Rattle.log.specs.Entries.{entry_at}
-use Rattle.log.specs.Rows.{value_for, latest_after}
-use Rattle.log.specs.declared.Entry.{Entry as EntryOf}
+use Rattle.server_log.specs.Entries.{entry_at}
+use Rattle.server_log.specs.Rows.{value_for, latest_after}
+use Rattle.server_log.specs.declared.Entry.{Entry as EntryOf}
 use Rattle.mail.specs.declared.Note.{Note}
 use Rattle.mail.specs.Reports.{zero_note}
 use Rattle.cluster.specs.declared.Server.{Server}

@@ -7,8 +7,8 @@ use Rattle.clock.specs.Times.{same_time}
 use Rattle.steps.specs.declared.Answer.TheVariants as A
 use Rattle.steps.specs.declared.Refusal.TheVariants.{NoSuchEntry}
 use Rattle.steps.specs.declared.Step.TheVariants.{Writes, MajorityRead, ClocksAgree}
-use Rattle.hex.specs.Digits.{digit_of, char_of, byte_of}
-use Rattle.hex.specs.Lines.{all_hex}
+use Rattle.hex_text.specs.Digits.{digit_of, char_of, byte_of}
+use Rattle.hex_text.specs.Lines.{all_hex}
 use Rattle.frames.specs.declared.ReadStep.TheVariants as R
 use Rattle.answers.specs.declared.ReadAnswer.TheVariants.{NoFrame}
 use Rattle.words.specs.Words.{high_of, low_of, word_of, framed}

@@ -4,8 +4,8 @@ use mathlib.Core.Bool.{true, false}
 use mathlib.Core.List.{[], ◌∷◌, ◌++◌}
 use lib.ListN.{replicate}
 use Rattle.base.specs.Numbers.{every}
-use Rattle.hex.specs.Digits.{digit_of, char_of, byte_of}
-use Rattle.hex.specs.Lines.{all_hex, bytes_of, hex_of, over}
+use Rattle.hex_text.specs.Digits.{digit_of, char_of, byte_of}
+use Rattle.hex_text.specs.Lines.{all_hex, bytes_of, hex_of, over}
 
 -- the characters 0, 1, 2, A and g are 48, 49, 50, 65 and 103
 

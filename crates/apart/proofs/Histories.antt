@@ -6,8 +6,8 @@ use Prim.Native.Nat.{ℕ}
 use Rattle.base.specs.Numbers.{every}
 use Rattle.clock.specs.declared.Time.{Time}
 use Rattle.clock.specs.Times.{is_before, same_time}
-use Rattle.log.specs.Entries.{entry_at}
-use Rattle.log.specs.Order.{entry_ok, follows, place_ok, in_order}
+use Rattle.server_log.specs.Entries.{entry_at}
+use Rattle.server_log.specs.Order.{entry_ok, follows, place_ok, in_order}
 use Rattle.steps.specs.declared.Refusal.TheVariants.{IllFormed}
 use Rattle.histories.specs.declared.PhoneRecord.{PhoneRecord}
 use Rattle.histories.specs.declared.Checked.TheVariants.{Breaks, Refused}

@@ -6,13 +6,13 @@ use Prim.Native.Nat.{ℕ, zero, suc, ◌-◌}
 use lib.ListN.{take, replicate}
 use Rattle.base.specs.Numbers.{every, highest}
 use Rattle.clock.specs.Times.{is_before, same_time}
-use Rattle.log.specs.declared.Entry.{Entry}
-use Rattle.log.specs.declared.Log.{Log}
-use Rattle.log.specs.Entries.{zero_entry, same_entry, entry_at, last_term, applied_time, equal_at, has_entry, common_beginning, is_beginning, latest_value}
-use Rattle.log.specs.Logs.{log_limit, highest_position, may_ask, empty_log, live, length_of, has_room, appended, joined}
-use Rattle.log.specs.Order.{entry_ok, follows, place_ok, in_order, rest_zero, is_empty_log, log_ok}
-use Rattle.log.specs.declared.rows.Latest.{Latest}
-use Rattle.log.specs.Rows.{zero_row, value_for, latest_after, latest_over, between, rows_of, row_ok, rows_ok}
+use Rattle.server_log.specs.declared.Entry.{Entry}
+use Rattle.server_log.specs.declared.Log.{Log}
+use Rattle.server_log.specs.Entries.{zero_entry, same_entry, entry_at, last_term, applied_time, equal_at, has_entry, common_beginning, is_beginning, latest_value}
+use Rattle.server_log.specs.Logs.{log_limit, highest_position, may_ask, empty_log, live, length_of, has_room, appended, joined}
+use Rattle.server_log.specs.Order.{entry_ok, follows, place_ok, in_order, rest_zero, is_empty_log, log_ok}
+use Rattle.server_log.specs.declared.rows.Latest.{Latest}
+use Rattle.server_log.specs.Rows.{zero_row, value_for, latest_after, latest_over, between, rows_of, row_ok, rows_ok}
 use Rattle.apart.proofs.Things.{at, entry, x, y, z, u, log, w}
 
 pub zero_entry_of_value_1 : zero_entry.value ≡ 0

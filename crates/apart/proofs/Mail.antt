@@ -6,7 +6,7 @@ use Prim.Native.Nat.{suc}
 use lib.ListN.{replicate}
 use Rattle.base.specs.Numbers.{every}
 use Rattle.base.specs.Lists.{each_from}
-use Rattle.log.specs.Logs.{highest_position}
+use Rattle.server_log.specs.Logs.{highest_position}
 use Rattle.mail.specs.declared.Queue.{Queue}
 use Rattle.mail.specs.Reports.{zero_report, zero_note, note_of, gives_way}
 use Rattle.mail.specs.Queues.{empty_queue, report_at, queued, oldest_taken}

@@ -5,9 +5,9 @@ use mathlib.Core.List.{[], ◌∷◌}
 use Prim.Native.Nat.{max}
 use lib.ListN.{replicate}
 use Rattle.clock.specs.Times.{zero_time, is_before, same_time, later_of}
-use Rattle.log.specs.Entries.{same_entry, entry_at, equal_at, common_beginning}
-use Rattle.log.specs.Rows.{zero_row, value_for, latest_after}
-use Rattle.log.specs.Logs.{empty_log}
+use Rattle.server_log.specs.Entries.{same_entry, entry_at, equal_at, common_beginning}
+use Rattle.server_log.specs.Rows.{zero_row, value_for, latest_after}
+use Rattle.server_log.specs.Logs.{empty_log}
 use Rattle.cluster.specs.Servers.{with_mail, fresh_server}
 use Rattle.steps.specs.declared.Sends.TheVariants.{To}
 use Rattle.steps.specs.declared.Answer.TheVariants.{Reached, Refused}

@@ -7,9 +7,9 @@ use lib.ListN.{replicate}
 use Rattle.base.specs.Numbers.{every, count, highest}
 use Rattle.base.specs.Lists.{each_from}
 use Rattle.clock.specs.Times.{is_before, same_time, later_of}
-use Rattle.log.specs.Entries.{same_entry, entry_at, latest_value}
-use Rattle.log.specs.Order.{in_order, rest_zero, is_empty_log, log_ok}
-use Rattle.log.specs.Rows.{row_ok, rows_ok}
+use Rattle.server_log.specs.Entries.{same_entry, entry_at, latest_value}
+use Rattle.server_log.specs.Order.{in_order, rest_zero, is_empty_log, log_ok}
+use Rattle.server_log.specs.Rows.{row_ok, rows_ok}
 use Rattle.cluster.specs.Servers.{fresh_server, zero_cluster, server_at}
 use Rattle.mail.specs.Order.{is_unused, is_used, note_ok, notes_ok, slot_ok, queue_ok, source_ok, mail_ok}
 use Rattle.cluster.specs.Sets.{member, is_within}
@@ -19,8 +19,8 @@ use Rattle.steps.specs.declared.Refusal.TheVariants.{NotAFrame, IllFormed}
 use Rattle.steps.specs.declared.Step.TheVariants.{Start, Hears, ClocksAgree}
 use Rattle.pairs.specs.Hears.{heard_of}
 use Rattle.rules.specs.Rules.{delivered, row_of, core_of, step_of}
-use Rattle.hex.specs.Digits.{digit_of, char_of, byte_of}
-use Rattle.hex.specs.Lines.{all_hex}
+use Rattle.hex_text.specs.Digits.{digit_of, char_of, byte_of}
+use Rattle.hex_text.specs.Lines.{all_hex}
 use Rattle.frames.specs.declared.ReadStep.TheVariants as R
 use Rattle.words.specs.Words.{high_of, low_of, word_of, framed}
 use Rattle.frames.specs.Layout.{bytes_of_frame, frame_of}

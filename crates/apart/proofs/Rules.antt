@@ -5,8 +5,8 @@ use mathlib.Core.List.{[], ◌∷◌}
 use Rattle.base.specs.Numbers.{every, count}
 use Rattle.base.specs.Lists.{each_from}
 use Rattle.clock.specs.Times.{is_before}
-use Rattle.log.specs.Entries.{entry_at}
-use Rattle.log.specs.Rows.{latest_after}
+use Rattle.server_log.specs.Entries.{entry_at}
+use Rattle.server_log.specs.Rows.{latest_after}
 use Rattle.mail.specs.Queues.{queued}
 use Rattle.cluster.specs.declared.Server.{Server}
 use Rattle.cluster.specs.Servers.{fresh_server, zero_cluster, started_of, server_at}

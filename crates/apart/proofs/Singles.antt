@@ -5,9 +5,9 @@ use mathlib.Core.List.{[], ◌∷◌}
 use lib.ListN.{replicate}
 use Rattle.clock.specs.declared.Time.{Time}
 use Rattle.clock.specs.Times.{is_before, later_of, tick_of}
-use Rattle.log.specs.Entries.{entry_at}
-use Rattle.log.specs.Logs.{log_limit, live, has_room, appended}
-use Rattle.log.specs.Rows.{value_for, latest_after}
+use Rattle.server_log.specs.Entries.{entry_at}
+use Rattle.server_log.specs.Logs.{log_limit, live, has_room, appended}
+use Rattle.server_log.specs.Rows.{value_for, latest_after}
 use Rattle.mail.specs.declared.Report.{Report}
 use Rattle.mail.specs.Reports.{zero_note, note_of, gives_way}
 use Rattle.mail.specs.Queues.{oldest_taken}

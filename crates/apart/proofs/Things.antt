@@ -5,11 +5,11 @@ use Prim.Native.Nat.{ℕ, ◌-◌}
 use lib.ListN.{length, replicate}
 use Rattle.clock.specs.declared.Time.{Time}
 use Rattle.clock.specs.Times.{zero_time}
-use Rattle.log.specs.declared.Entry.{Entry}
-use Rattle.log.specs.declared.Log.{Log}
-use Rattle.log.specs.Entries.{zero_entry}
-use Rattle.log.specs.Logs.{log_limit}
-use Rattle.log.specs.Rows.{rows_of}
+use Rattle.server_log.specs.declared.Entry.{Entry}
+use Rattle.server_log.specs.declared.Log.{Log}
+use Rattle.server_log.specs.Entries.{zero_entry}
+use Rattle.server_log.specs.Logs.{log_limit}
+use Rattle.server_log.specs.Rows.{rows_of}
 use Rattle.mail.specs.declared.Report.{Report}
 use Rattle.mail.specs.declared.Note.{Note}
 use Rattle.mail.specs.declared.Queue.{Queue}

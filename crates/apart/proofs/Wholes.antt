@@ -4,8 +4,8 @@ use mathlib.Core.Bool.{true, false}
 use mathlib.Core.List.{[], ◌∷◌}
 use Rattle.base.specs.Numbers.{every, count, greatest}
 use Rattle.base.specs.Lists.{each_from}
-use Rattle.log.specs.Entries.{entry_at}
-use Rattle.log.specs.Logs.{empty_log}
+use Rattle.server_log.specs.Entries.{entry_at}
+use Rattle.server_log.specs.Logs.{empty_log}
 use Rattle.cluster.specs.declared.Cluster.{Cluster}
 use Rattle.cluster.specs.Servers.{fresh_server, started_of, fresh_cluster, server_at, with_server, voted_of, clocked_of}
 use Rattle.cluster.specs.Sets.{member, is_within, is_apart}

@@ -1,5 +1,7 @@
 // The program that checks what phones saw: step lines from standard input, the phones' records from another descriptor, and one sentence to
 // standard output. A program crate of one line calls `run`.
+#![tactic(auto)]
+
 mod find;
 mod passed;
 mod say;

@@ -9,7 +9,7 @@ const CARRIAGE_RETURN: u8 = 13;
 
 // The number of the line that is being read; how many lines were no frames, the first one's number, and that of the first line that ended
 // in CR, 0 for none.
-#[derive(Drop)]
+#[derive(Clone, Copy)]
 pub struct Passed {
     pub number: usize,
     pub count: usize,
@@ -18,7 +18,7 @@ pub struct Passed {
 }
 
 // The same, the line that is being read, and its last character.
-#[derive(Drop)]
+#[derive(Clone, Copy)]
 pub struct Passing {
     pub passed: Passed,
     pub reader: Reader,

@@ -6,8 +6,8 @@ use followed::Run;
 use histories::kept::MOST_KEPT;
 use histories::why::Reason;
 use histories::{Checked, PhoneRecord};
-use log::{Entry, Log};
 use phones::Listed;
+use server_log::{Entry, Log};
 use steps::Refusal;
 use verdicts::Verdict;
 
@@ -23,7 +23,7 @@ pub(crate) fn tell(run: Run, s: Listed, passed: Passed, ends: Passed) {
         }
         Verdict::Judged(c) => {
             judged(c, g, s);
-            against(log::length_of(g), run.starts);
+            against(server_log::length_of(g), run.starts);
             no_frames(passed);
         }
     }
@@ -172,7 +172,7 @@ fn no_such_position(r: PhoneRecord) {
 fn other_entry(r: PhoneRecord, e: Entry) {
     write_of(r);
     let t = e.time;
-    if e.key == log::NO_KEY {
+    if e.key == server_log::NO_KEY {
         say::time(
             b", but there the log has an entry that writes nothing, at time ",
             t,

@@ -13,7 +13,7 @@ use phones::{Listed, Listing};
 const PHONES_FILENO: i32 = 5;
 
 // Both texts as far as they were read, and what is passed over of the step lines, and of the phones'.
-#[derive(Drop)]
+#[derive(Clone, Copy)]
 pub struct Texts {
     pub following: Following,
     pub listing: Listing,
@@ -22,14 +22,14 @@ pub struct Texts {
 }
 
 // The same, and why it was read no further.
-#[derive(Drop)]
+#[derive(Clone, Copy)]
 pub struct Taken {
     pub texts: Texts,
     pub end: End,
 }
 
 // What both texts come to, and of each what is passed over, and whether all of it was read.
-#[derive(Drop)]
+#[derive(Clone, Copy)]
 pub struct Both {
     pub run: Run,
     pub list: Listed,

@@ -26,16 +26,16 @@ use Rattle.clock.specs.declared.Time.{Time}
 use Rattle.clock.specs.Times.{limit, zero_time, is_before, tick_of}
 use Rattle.clock.proofs.Order as order
 use Rattle.clock.proofs.Ticks as ticks
-use Rattle.log.specs.declared.Entry.{Entry}
-use Rattle.log.specs.declared.Log.{Log}
-use Rattle.log.specs.Entries.{same_entry, entry_at, common_beginning, latest_value}
-use Rattle.log.specs.Logs.{live, length_of, joined, may_ask}
-use Rattle.log.specs.Order.{highest_key}
-use Rattle.log.specs.Ranges.{FitsEntry}
-use Rattle.log.proofs.Common as common
-use Rattle.log.proofs.Equal as equal
-use Rattle.log.specs.Rows.{value_for}
-use Rattle.log.proofs.Latest as latest
+use Rattle.server_log.specs.declared.Entry.{Entry}
+use Rattle.server_log.specs.declared.Log.{Log}
+use Rattle.server_log.specs.Entries.{same_entry, entry_at, common_beginning, latest_value}
+use Rattle.server_log.specs.Logs.{live, length_of, joined, may_ask}
+use Rattle.server_log.specs.Order.{highest_key}
+use Rattle.server_log.specs.Ranges.{FitsEntry}
+use Rattle.server_log.proofs.Common as common
+use Rattle.server_log.proofs.Equal as equal
+use Rattle.server_log.specs.Rows.{value_for}
+use Rattle.server_log.proofs.Latest as latest
 use Rattle.cluster.specs.declared.Server.{Server}
 use Rattle.cluster.specs.Sets.{bits, members_of, votes, voters, voters_with, most_of}
 use Rattle.cluster.proofs.Good as facts
@@ -50,9 +50,9 @@ use Rattle.reads.specs.LocalRead.{local_read_of}
 use Rattle.reads.specs.MajorityRead.{covered, majority_read_of}
 use Rattle.reads.specs.Lists.{whole_list, committed_list}
 use Rattle.reads.proofs.Walks as walks
-use Rattle.hex.specs.Digits.{radix, digit_of, char_of}
-use Rattle.hex.specs.Lines.{chars}
-use Rattle.hex.proofs.Values as values
+use Rattle.hex_text.specs.Digits.{radix, digit_of, char_of}
+use Rattle.hex_text.specs.Lines.{chars}
+use Rattle.hex_text.proofs.Values as values
 use Rattle.words.specs.Words.{high_of, low_of, word_of}
 use Rattle.words.proofs.Bytes as bytes
 use Rattle.frames.specs.Kinds.{kinds, must_be_zero, is_table}

@@ -1,15 +1,17 @@
 // Times by value: their order, the later of two, and the tick.
+#![tactic(auto)]
+
 ghost use Rattle.std.specs.Prelude.{◌≡◌};
 ghost use Rattle.clock.specs.Times.{zero_time, is_before, same_time, later_of, tick_of};
 
-#[derive(Drop)]
+#[derive(Clone, Copy)]
 pub struct Time {
     pub p: u16,
     pub l: u16,
 }
 
 // A tick gives the new time, or l is at its limit where it must grow.
-#[derive(Drop)]
+#[derive(Clone, Copy)]
 pub enum Ticked {
     To(Time),
     AtLimit,

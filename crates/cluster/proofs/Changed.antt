@@ -7,10 +7,10 @@ use lib.ListN.{length}
 use lib.Seq.{get_or-set_same, get_or-set_other}
 use Rattle.base.proofs.Each.{each_at, length_each_from}
 use Rattle.base.specs.Lists.{each}
-use Rattle.log.specs.declared.Log.{Log}
-use Rattle.log.specs.declared.rows.Rows.{Rows}
-use Rattle.log.specs.Ranges.{FitsLog, FitsRows}
-use Rattle.log.proofs.Ranges.{fits_rows_of}
+use Rattle.server_log.specs.declared.Log.{Log}
+use Rattle.server_log.specs.declared.rows.Rows.{Rows}
+use Rattle.server_log.specs.Ranges.{FitsLog, FitsRows}
+use Rattle.server_log.proofs.Ranges.{fits_rows_of}
 use Rattle.mail.specs.declared.Mail.{Mail}
 use Rattle.mail.specs.Ranges.{FitsMail}
 use Rattle.cluster.specs.declared.Head.{Head}

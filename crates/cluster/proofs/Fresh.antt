@@ -14,13 +14,13 @@ use Rattle.base.proofs.Facts.{lt_or_le}
 use Rattle.clock.specs.Ranges.{FitsTime}
 use Rattle.clock.specs.Times.{zero_time}
 use Rattle.clock.proofs.Order.{before_itself}
-use Rattle.log.specs.Entries.{zero_entry, entry_at}
-use Rattle.log.specs.Logs.{log_limit, empty_log}
-use Rattle.log.specs.Ranges.{FitsLog}
-use Rattle.log.proofs.Tidy.{tidy_empty}
-use Rattle.log.proofs.Orderly.{Orderly}
-use Rattle.log.proofs.Ranges.{fits_zero_rows}
-use Rattle.log.proofs.Rowed.{rows_of_good}
+use Rattle.server_log.specs.Entries.{zero_entry, entry_at}
+use Rattle.server_log.specs.Logs.{log_limit, empty_log}
+use Rattle.server_log.specs.Ranges.{FitsLog}
+use Rattle.server_log.proofs.Tidy.{tidy_empty}
+use Rattle.server_log.proofs.Orderly.{Orderly}
+use Rattle.server_log.proofs.Ranges.{fits_zero_rows}
+use Rattle.server_log.proofs.Rowed.{rows_of_good}
 use Rattle.cluster.specs.Sets.{member, is_within}
 use Rattle.cluster.specs.Servers.{fewest_servers, most_servers, with_wall, with_head, zero_head, zero_server, fresh_server, past_server, server_at, started_of, fresh_cluster, zero_cluster}
 use Rattle.mail.proofs.Kept.{zero_good}

@@ -13,12 +13,12 @@ use Rattle.base.proofs.Every.{every_at, every_all}
 use Rattle.base.proofs.Facts.{lt_or_le}
 use Rattle.clock.specs.Times.{zero_time, is_before}
 use Rattle.clock.proofs.Order.{same_time_eq, same_time_refl}
-use Rattle.log.specs.Entries.{applied_time}
-use Rattle.log.specs.Logs.{log_limit, empty_log, live, length_of}
-use Rattle.log.specs.Order.{is_empty_log, log_ok}
-use Rattle.log.specs.Rows.{rows_of, rows_ok}
-use Rattle.log.proofs.Orderly.{LogGood, log_good, good_log, empty_log_is, is_empty_log}
-use Rattle.log.proofs.Rowed.{RowsGood, rows_good, good_rows, rows_of_good, rows_are}
+use Rattle.server_log.specs.Entries.{applied_time}
+use Rattle.server_log.specs.Logs.{log_limit, empty_log, live, length_of}
+use Rattle.server_log.specs.Order.{is_empty_log, log_ok}
+use Rattle.server_log.specs.Rows.{rows_of, rows_ok}
+use Rattle.server_log.proofs.Orderly.{LogGood, log_good, good_log, empty_log_is, is_empty_log}
+use Rattle.server_log.proofs.Rowed.{RowsGood, rows_good, good_rows, rows_of_good, rows_are}
 use Rattle.mail.specs.Mails.{zero_mail}
 use Rattle.mail.specs.Order.{mail_ok}
 use Rattle.mail.proofs.Good.{MailGood, mail_good, good_mail}

@@ -2,7 +2,7 @@
 use Prim.Native.Nat.{ℕ, min}
 use Rattle.base.proofs.Results.{OneResult, one_result}
 use Rattle.cluster.specs.declared.Cluster.{Cluster}
-use Rattle.log.specs.declared.Log.{Log}
+use Rattle.server_log.specs.declared.Log.{Log}
 use Rattle.cluster.specs.declared.Server.{Server}
 use Rattle.cluster.specs.Servers.{clocked_of, clocks_set, committed_to, elected_all, fresh_cluster, fresh_server, most_servers, rowed_all, rowed_of, started_of, voted_of, with_server, zero_cluster}
 use Rattle.cluster.specs.Sets.{is_apart, is_majority, is_within, member, members_of, votes}

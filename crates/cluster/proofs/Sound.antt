@@ -3,8 +3,8 @@ use Prim.Native.Nat.{ℕ, ◌<◌}
 use native.Mathlib.Omega.{arith}
 use mathlib.Core.Logic.{⊎_elim}
 use Rattle.base.proofs.Facts.{lt_or_le}
-use Rattle.log.specs.Logs.{empty_log}
-use Rattle.log.proofs.Rowed.{RowsGood, rows_of_good}
+use Rattle.server_log.specs.Logs.{empty_log}
+use Rattle.server_log.proofs.Rowed.{RowsGood, rows_of_good}
 use Rattle.mail.proofs.Good.{MailGood}
 use Rattle.cluster.specs.declared.Server.{Server}
 use Rattle.cluster.specs.declared.Cluster.{Cluster}

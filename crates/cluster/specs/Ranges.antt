@@ -3,7 +3,7 @@ use Rattle.std.specs.Prelude.{◌≡◌, ℕ, ◌<◌, ◌≤◌, ◌^◌, lengt
 use Rattle.base.specs.Numbers.{byte}
 use Rattle.clock.specs.Times.{limit}
 use Rattle.clock.specs.Ranges.{FitsTime}
-use Rattle.log.specs.Ranges.{FitsLog, FitsRows}
+use Rattle.server_log.specs.Ranges.{FitsLog, FitsRows}
 use Rattle.mail.specs.Ranges.{FitsMail}
 use Rattle.cluster.specs.declared.Head.{Head}
 use Rattle.cluster.specs.declared.Server.{Server}

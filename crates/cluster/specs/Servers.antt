@@ -3,11 +3,11 @@ use Rattle.std.specs.Prelude.{[], Bool, false, cond, ℕ, min, eqb, ltb, get_or,
 use Rattle.base.specs.Lists.{each}
 use Rattle.clock.specs.declared.Time.{Time}
 use Rattle.clock.specs.Times.{zero_time}
-use Rattle.log.specs.declared.Log.{Log}
-use Rattle.log.specs.declared.rows.Latest.{Latest}
-use Rattle.log.specs.declared.rows.Rows.{Rows}
-use Rattle.log.specs.Logs.{empty_log}
-use Rattle.log.specs.Rows.{zero_rows, latest_over, between, rows_of}
+use Rattle.server_log.specs.declared.Log.{Log}
+use Rattle.server_log.specs.declared.rows.Latest.{Latest}
+use Rattle.server_log.specs.declared.rows.Rows.{Rows}
+use Rattle.server_log.specs.Logs.{empty_log}
+use Rattle.server_log.specs.Rows.{zero_rows, latest_over, between, rows_of}
 use Rattle.mail.specs.declared.Mail.{Mail}
 use Rattle.mail.specs.Mails.{zero_mail, emptied}
 use Rattle.cluster.specs.declared.Head.{Head}

@@ -2,10 +2,10 @@
 use Rattle.std.specs.Prelude.{Bool, true, cond, not, ◌&&◌, ℕ, eqb, ltb, leb}
 use Rattle.base.specs.Numbers.{every}
 use Rattle.clock.specs.Times.{zero_time, is_before, same_time}
-use Rattle.log.specs.Entries.{applied_time}
-use Rattle.log.specs.Logs.{live, length_of}
-use Rattle.log.specs.Order.{is_empty_log, log_ok}
-use Rattle.log.specs.Rows.{rows_ok}
+use Rattle.server_log.specs.Entries.{applied_time}
+use Rattle.server_log.specs.Logs.{live, length_of}
+use Rattle.server_log.specs.Order.{is_empty_log, log_ok}
+use Rattle.server_log.specs.Rows.{rows_ok}
 use Rattle.mail.specs.Order.{mail_ok}
 use Rattle.cluster.specs.declared.Server.{Server}
 use Rattle.cluster.specs.declared.Cluster.{Cluster}

@@ -1,17 +1,19 @@
 // Servers side by side in one record, by value: the fixed records, one server replaced, all servers changed, and which records are well formed.
+#![tactic(auto)]
+
 ghost use Rattle.std.specs.Prelude.{◌≡◌, min};
 ghost use Rattle.cluster.specs.Servers.{most_servers, fresh_server, zero_cluster, started_of, fresh_cluster, with_server, voted_of, elected_all, clocked_of, clocks_set, committed_to, rowed_of, rowed_all, changed_of, changed_all};
 ghost use Rattle.cluster.specs.WellFormed.{numbers_ok, counted_ok, zero_ok, role_ok, server_ok, size_ok, well_formed};
 
 use clock::Time;
-use log::Log;
-use log::rows::{Latest, Rows};
 use mail::Mail;
+use server_log::Log;
+use server_log::rows::{Latest, Rows};
 
 pub mod sets;
 
 // What a server keeps beside its log, apart from it so that a kind that touches no log is told of heads alone.
-#[derive(Drop)]
+#[derive(Clone, Copy)]
 pub struct Head {
     pub term: u16,
     pub primary: bool,
@@ -21,7 +23,7 @@ pub struct Head {
 }
 
 // A step names what it changes, `Server { head: h, ..s }`.
-#[derive(Drop)]
+#[derive(Clone, Copy)]
 pub struct Server {
     pub head: Head,
     pub log: Log,
@@ -30,7 +32,7 @@ pub struct Server {
 }
 
 // How many servers there are, which of them are followers, and the servers.
-#[derive(Drop)]
+#[derive(Clone, Copy)]
 pub struct Cluster {
     pub count: usize,
     pub followers: u8,
@@ -38,7 +40,7 @@ pub struct Cluster {
 }
 
 // A change of all servers at once: a start of n, an election of a by a set into a term, the first count's wall clocks, rows worked out afresh.
-#[derive(Drop)]
+#[derive(Clone, Copy)]
 enum Change {
     Start(usize),
     Elect(usize, u8, u16),
@@ -62,9 +64,9 @@ const ZERO_HEAD: Head = Head {
 
 pub const ZERO_SERVER: Server = Server {
     head: ZERO_HEAD,
-    log: log::EMPTY_LOG,
+    log: server_log::EMPTY_LOG,
     mail: mail::ZERO_MAIL,
-    rows: log::rows::ZERO_ROWS,
+    rows: server_log::rows::ZERO_ROWS,
 };
 
 pub const FRESH_SERVER: Server = Server {
@@ -175,7 +177,7 @@ pub fn committed_to(s: Server, g: Log, n: usize) -> Latest
 {
     let rows = s.rows;
     let before = rows.committed;
-    log::rows::latest_over(before, g, s.head.commit, n)
+    server_log::rows::latest_over(before, g, s.head.commit, n)
 }
 
 // The server with its rows worked out afresh.
@@ -184,7 +186,7 @@ pub fn rowed(s: Server) -> Server
 {
     let g = s.log;
     Server {
-        rows: log::rows::rows_of(g, s.head.commit),
+        rows: server_log::rows::rows_of(g, s.head.commit),
         ..s
     }
 }
@@ -252,7 +254,7 @@ pub fn rowed_all(c: Cluster) -> Cluster
 pub fn numbers_ok(s: Server) -> bool
     ensures { result ≡ numbers_ok s }
 {
-    if log::length_of(s.log) < s.head.commit {
+    if server_log::length_of(s.log) < s.head.commit {
         return false;
     }
     if s.head.wall < 1 {
@@ -270,10 +272,10 @@ pub fn counted_ok(s: Server) -> bool
     ensures { result ≡ counted_ok s }
 {
     let g = s.log;
-    if !log::log_ok(g, s.head.term) {
+    if !server_log::log_ok(g, s.head.term) {
         return false;
     }
-    let last = log::applied_time(g);
+    let last = server_log::applied_time(g);
     let now = s.head.time;
     if clock::is_before(now, last) {
         return false;
@@ -286,7 +288,7 @@ pub fn zero_ok(s: Server) -> bool
     ensures { result ≡ zero_ok s }
 {
     let g = s.log;
-    if !log::is_empty_log(g) {
+    if !server_log::is_empty_log(g) {
         return false;
     }
     if s.head.term != 0 {
@@ -321,7 +323,7 @@ pub fn server_ok(s: Server, n: usize, followers: u8, i: usize) -> bool
 {
     let g = s.log;
     let rows = s.rows;
-    if !log::rows::rows_ok(rows, g, s.head.commit) {
+    if !server_log::rows::rows_ok(rows, g, s.head.commit) {
         return false;
     }
     let m = s.mail;

@@ -6,9 +6,9 @@ use lib.Dec.{eqb, ltb}
 use borrow.Author.Tests.{eq-eqb, ne_eqb, le-leb, lt-ltb, le-ltb}
 use Rattle.base.proofs.Bools.{and_no}
 use Rattle.base.proofs.Highest.{highest_passes, highest_above}
-use Rattle.log.specs.declared.Entry.{Entry}
-use Rattle.log.specs.Entries.{entry_at}
-use Rattle.log.specs.Logs.{live, length_of}
+use Rattle.server_log.specs.declared.Entry.{Entry}
+use Rattle.server_log.specs.Entries.{entry_at}
+use Rattle.server_log.specs.Logs.{live, length_of}
 use Rattle.cluster.specs.declared.Server.{Server}
 use Rattle.cluster.specs.Sets.{voters}
 use Rattle.counts.specs.Advances.{backers, passes, highest_passing}

@@ -1,8 +1,8 @@
 -- Kind 7: a advances its commit point. Assumes nothing.
 use Rattle.std.specs.Prelude.{[], ◌∷◌, Bool, ◌&&◌, ◌||◌, ℕ, eqb, ltb, leb}
 use Rattle.base.specs.Numbers.{highest}
-use Rattle.log.specs.Entries.{entry_at}
-use Rattle.log.specs.Logs.{live, length_of}
+use Rattle.server_log.specs.Entries.{entry_at}
+use Rattle.server_log.specs.Logs.{live, length_of}
 use Rattle.mail.specs.Mails.{note_at}
 use Rattle.cluster.specs.declared.Server.{Server}
 use Rattle.cluster.specs.declared.Cluster.{Cluster}

@@ -5,7 +5,7 @@ ghost use Rattle.cluster.specs.Sets.{votes};
 ghost use Rattle.counts.specs.Advances.{backs, highest_passing, advances_of};
 
 use cluster::{Cluster, Head, Server};
-use log::rows::Rows;
+use server_log::rows::Rows;
 use steps::{Answer, Outcome, Refusal};
 
 // Whether server i counts for position n at s, which is server a.
@@ -44,7 +44,7 @@ pub fn highest_passing(count: usize, followers: u8, s: Server, a: usize) -> usiz
     let size = cluster::server_count(count);
     let voters = cluster::sets::voters(size, followers);
     let g = s.log;
-    let mut n = log::length_of(g);
+    let mut n = server_log::length_of(g);
     let found = loop {
         if n <= s.head.commit {
             break 0;
@@ -57,7 +57,7 @@ pub fn highest_passing(count: usize, followers: u8, s: Server, a: usize) -> usiz
             }
             i += 1;
         }
-        let e = log::entry_at(g, n);
+        let e = server_log::entry_at(g, n);
         if e.term == s.head.term {
             if voters < k * 2 {
                 break n;

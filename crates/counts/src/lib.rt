@@ -1,2 +1,4 @@
 // What counts servers: kind 7.
+#![tactic(auto)]
+
 pub mod advances;

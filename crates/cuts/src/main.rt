@@ -1,6 +1,8 @@
 // Readers of all forms, reached or not, each given a character, a line feed and the end; and a session that is cut in every place. A line of
 // standard input that begins with = is a reader: the characters that it holds, a dot for a zero byte, then how many there are, in three digits, and
 // whether the line is too long, 0 or 1. What comes after a line that begins with + is the session. Other lines are only written.
+#![tactic(auto)]
+
 ghost use Rattle.std.specs.Prelude.{◌≤◌, length};
 
 use cluster::Cluster;
@@ -17,7 +19,7 @@ const READER_LINE: usize = 1 + lines::WIDTH + 1 + 3 + 1 + 1;
 const ROOM: usize = 8192;
 
 // A session that is fed piece by piece, how far its answers are those of the text at once, and whether they all are.
-#[derive(Drop)]
+#[derive(Clone, Copy)]
 struct Told {
     session: Session,
     at: usize,

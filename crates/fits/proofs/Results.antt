@@ -2,10 +2,10 @@
 use mathlib.Core.Bool.{true}
 use Rattle.base.proofs.Results.{OneResult, one_result}
 use Rattle.clock.specs.declared.Time.{Time}
-use Rattle.log.specs.declared.Entry.{Entry}
-use Rattle.log.specs.declared.Log.{Log}
-use Rattle.log.specs.declared.rows.Latest.{Latest}
-use Rattle.log.specs.declared.rows.Rows.{Rows}
+use Rattle.server_log.specs.declared.Entry.{Entry}
+use Rattle.server_log.specs.declared.Log.{Log}
+use Rattle.server_log.specs.declared.rows.Latest.{Latest}
+use Rattle.server_log.specs.declared.rows.Rows.{Rows}
 use Rattle.mail.specs.declared.Mail.{Mail}
 use Rattle.mail.specs.declared.Queue.{Queue}
 use Rattle.mail.specs.declared.Report.{Report}

@@ -1,8 +1,10 @@
 // Every value of the types fits their ranges: each function here only shows so, of whatever it is given.
+#![tactic(auto)]
+
 ghost use Rattle.std.specs.Prelude.{◌≡◌, true, ◌≤◌};
 ghost use Rattle.clock.specs.Times.{limit};
 ghost use Rattle.clock.specs.Ranges.{FitsTime};
-ghost use Rattle.log.specs.Ranges.{FitsEntry, FitsLog, FitsLatest, FitsRows};
+ghost use Rattle.server_log.specs.Ranges.{FitsEntry, FitsLog, FitsLatest, FitsRows};
 ghost use Rattle.mail.specs.Ranges.{FitsNote, FitsReport, FitsQueue, FitsMail};
 ghost use Rattle.cluster.specs.Ranges.{FitsHead, FitsServer, Fits};
 ghost use Rattle.steps.specs.Ranges.{FitsStep};
@@ -10,9 +12,9 @@ ghost use Rattle.answers.specs.Ranges.{FitsTelling};
 
 use clock::Time;
 use cluster::{Cluster, Head, Server};
-use log::rows::{Latest, Rows};
-use log::{Entry, Log};
 use mail::{Mail, Note, Queue, Report};
+use server_log::rows::{Latest, Rows};
+use server_log::{Entry, Log};
 use steps::{Step, Telling};
 
 pub fn time_fits(t: Time) -> bool
@@ -35,7 +37,7 @@ pub fn log_fits(g: Log) -> bool
     ensures fits_log { FitsLog g }
 {
     let mut i = 0;
-    while i < log::LOG_LIMIT {
+    while i < server_log::LOG_LIMIT {
         let e = g.entries[i];
         entry_fits(e);
         i += 1;
@@ -96,7 +98,7 @@ pub fn latest_fits(v: Latest) -> bool
     ensures fits_latest { FitsLatest v }
 {
     let mut i = 0;
-    while i < log::rows::KEYS {
+    while i < server_log::rows::KEYS {
         let n = v.values[i];
         value_fits(n);
         i += 1;

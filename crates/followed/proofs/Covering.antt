@@ -11,10 +11,10 @@ use lib.Dec.{ltb}
 use lib.ListN.{length, take}
 use lib.Seq.{take_all, take-length}
 use Rattle.base.proofs.Facts.{lt_or_le}
-use Rattle.log.specs.declared.Entry.{Entry}
-use Rattle.log.specs.declared.Log.{Log}
-use Rattle.log.specs.Logs.{live, length_of}
-use Rattle.log.proofs.Live.{first_slots}
+use Rattle.server_log.specs.declared.Entry.{Entry}
+use Rattle.server_log.specs.declared.Log.{Log}
+use Rattle.server_log.specs.Logs.{live, length_of}
+use Rattle.server_log.proofs.Live.{first_slots}
 use Rattle.cluster.specs.declared.Server.{Server}
 use Rattle.cluster.specs.declared.Cluster.{Cluster}
 use Rattle.cluster.specs.Servers.{server_count, server_at}

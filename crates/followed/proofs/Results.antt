@@ -4,7 +4,7 @@ use denote.Ref.{Bor}
 use mathlib.Core.List.{List}
 use Prim.Native.Nat.{ℕ}
 use Rattle.base.proofs.Results.{OneResult, one_result}
-use Rattle.log.specs.declared.Log.{Log}
+use Rattle.server_log.specs.declared.Log.{Log}
 use Rattle.cluster.specs.declared.Cluster.{Cluster}
 use Rattle.followed.specs.declared.Following.{Following}
 use Rattle.followed.specs.Longest.{kept_log}

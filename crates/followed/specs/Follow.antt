@@ -1,7 +1,7 @@
 -- A run that is followed line by line: the record after each line, the longest beginning that was covered since the last start that
 -- succeeded, and how many starts have. Assumes nothing.
 use Rattle.std.specs.Prelude.{◌≡◌, Bool, true, false, cond, ◌&&◌, List, [], ◌∷◌, ℕ}
-use Rattle.log.specs.Logs.{empty_log}
+use Rattle.server_log.specs.Logs.{empty_log}
 use Rattle.cluster.specs.declared.Cluster.{Cluster}
 use Rattle.cluster.specs.Servers.{zero_cluster}
 use Rattle.steps.specs.declared.Answer.{Answer}

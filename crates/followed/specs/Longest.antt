@@ -1,8 +1,8 @@
 -- The longest beginning that commit points have ever covered, kept as a log. Nobody has to believe this: by `kept-live` its entries are those
 -- of `longer_of`. Assumes nothing.
 use Rattle.std.specs.Prelude.{cond, ℕ, zero, suc, min, ltb}
-use Rattle.log.specs.declared.Log.{Log}
-use Rattle.log.specs.Logs.{length_of}
+use Rattle.server_log.specs.declared.Log.{Log}
+use Rattle.server_log.specs.Logs.{length_of}
 use Rattle.cluster.specs.declared.Server.{Server}
 use Rattle.cluster.specs.declared.Cluster.{Cluster}
 use Rattle.cluster.specs.Servers.{server_count, server_at}

@@ -1,17 +1,19 @@
 // A run that is followed line by line: the record, the longest beginning that was covered since the last start that succeeded, and how
 // many starts have.
+#![tactic(auto)]
+
 ghost use Rattle.std.specs.Prelude.{◌≡◌};
 ghost use Rattle.followed.specs.Follow.{is_done, begins, run_after_read, new_following, followed_by, finished_run};
 
 use cluster::Cluster;
 use frames::ReadStep;
 use lines::Reader;
-use log::Log;
+use server_log::Log;
 use steps::Answer;
 
 pub mod longest;
 
-#[derive(Drop)]
+#[derive(Clone, Copy)]
 pub struct Run {
     pub cluster: Cluster,
     pub longest: Log,
@@ -19,7 +21,7 @@ pub struct Run {
 }
 
 // A run, and the line that is being read.
-#[derive(Drop)]
+#[derive(Clone, Copy)]
 pub struct Following {
     pub run: Run,
     pub reader: Reader,
@@ -32,7 +34,7 @@ pub fn begin() -> Following
     Following {
         run: Run {
             cluster: cluster::zero_cluster(),
-            longest: log::empty_log(),
+            longest: server_log::empty_log(),
             starts: 0,
         },
         reader: lines::fresh_reader(),
@@ -76,7 +78,7 @@ fn after_line(r: Run, read: ReadStep) -> Run
     if begins(read, answer) {
         return Run {
             cluster: d,
-            longest: longest::longer(log::empty_log(), d),
+            longest: longest::longer(server_log::empty_log(), d),
             starts: lines::one_more(r.starts),
         };
     }

@@ -3,14 +3,14 @@ ghost use Rattle.std.specs.Prelude.{◌≡◌};
 ghost use Rattle.followed.specs.Longest.{cut_log, longer_log, kept_log};
 
 use cluster::{Cluster, Server};
-use log::Log;
+use server_log::Log;
 
 // The server's log, cut at its commit point.
 fn cut(s: Server) -> Log
     ensures { result ≡ cut_log s }
 {
     let g = s.log;
-    let n = log::length_of(g);
+    let n = server_log::length_of(g);
     let commit = s.head.commit;
     if commit < n {
         return Log { len: commit, ..g };
@@ -22,7 +22,7 @@ fn cut(s: Server) -> Log
 fn longer_of(g: Log, h: Log) -> Log
     ensures { result ≡ longer_log g h }
 {
-    if log::length_of(g) < log::length_of(h) {
+    if server_log::length_of(g) < server_log::length_of(h) {
         return h;
     }
     g

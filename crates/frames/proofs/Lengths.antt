@@ -4,8 +4,8 @@ use Prim.Native.Nat.{◌*◌}
 use native.Mathlib.Omega.{arith}
 use lib.ListN.{length}
 use Rattle.steps.specs.declared.Step.{Step}
-use Rattle.hex.specs.Lines.{chars}
-use Rattle.hex.proofs.Places.{hex_length}
+use Rattle.hex_text.specs.Lines.{chars}
+use Rattle.hex_text.proofs.Places.{hex_length}
 use Rattle.steps.specs.declared.Frame.{Frame}
 use Rattle.steps.specs.Fields.{frame_for}
 use Rattle.frames.specs.Layout.{step_bytes, bytes_of_frame}

@@ -7,7 +7,7 @@ use borrow.Author.Tests.{eqb-true}
 use lib.Dec.{eqb}
 use lib.ListN.{length}
 use Rattle.base.proofs.Every.{every_at}
-use Rattle.hex.proofs.Trips.{Bytes, byte_below}
+use Rattle.hex_text.proofs.Trips.{Bytes, byte_below}
 use Rattle.steps.specs.declared.Frame.{Frame}
 use Rattle.steps.specs.Ranges.{FitsFrame}
 use Rattle.words.specs.Words.{byte_at}

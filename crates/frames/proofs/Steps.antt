@@ -12,8 +12,8 @@ use Rattle.clock.specs.declared.Time.{Time}
 use Rattle.steps.specs.declared.Step.{Step}
 use Rattle.steps.specs.declared.Step.TheVariants.{Start, Elect, StepDown, Hears, Pulls, RollsBack, Writes, Advances, WallClock, Restarts, LocalRead, MajorityRead, Acknowledged, ClocksAgree, WritesNothing, NewestRead, TakesReport}
 use Rattle.steps.specs.Ranges.{FitsFrame, FitsStep}
-use Rattle.hex.specs.Lines.{bytes_of, hex_of}
-use Rattle.hex.proofs.Trips.{Bytes, bytes_below}
+use Rattle.hex_text.specs.Lines.{bytes_of, hex_of}
+use Rattle.hex_text.proofs.Trips.{Bytes, bytes_below}
 use Rattle.steps.specs.declared.Frame.{Frame}
 use Rattle.frames.specs.declared.ReadStep.TheVariants as R
 use Rattle.words.specs.Words.{high_of, low_of, byte_at}

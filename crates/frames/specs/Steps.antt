@@ -3,7 +3,7 @@ use Rattle.std.specs.Prelude.{cond, List, ℕ}
 use Rattle.steps.specs.declared.Frame.{Frame}
 use Rattle.steps.specs.declared.Step.{Step}
 use Rattle.steps.specs.Fields.{frame_for}
-use Rattle.hex.specs.Lines.{hex_of}
+use Rattle.hex_text.specs.Lines.{hex_of}
 use Rattle.words.specs.Words.{byte_at, framed}
 use Rattle.frames.specs.declared.ReadStep.{ReadStep}
 use Rattle.frames.specs.declared.ReadStep.TheVariants.{NoFrame}

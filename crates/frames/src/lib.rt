@@ -1,4 +1,6 @@
 // Step frames: lines of hexadecimal, read and written by one layout.
+#![tactic(auto)]
+
 ghost use Rattle.std.specs.Prelude.{◌≡◌};
 ghost use Rattle.steps.specs.Fields.{fields, frame_for};
 ghost use Rattle.frames.specs.Layout.{bytes_of_frame, frame_of};
@@ -12,7 +14,7 @@ use words::{high, low, word};
 mod masks;
 
 // What a line is read as: the step whose frame it is, or no frame.
-#[derive(Drop)]
+#[derive(Clone, Copy)]
 pub enum ReadStep {
     Step(Step),
     NoFrame,
@@ -21,7 +23,7 @@ pub enum ReadStep {
 const STEP_BYTES: usize = 13;
 
 // How many characters a step frame has.
-pub const STEP_CHARS: usize = hex::CHARS * STEP_BYTES;
+pub const STEP_CHARS: usize = hex_text::CHARS * STEP_BYTES;
 
 // The kinds' numbers.
 const START: u8 = 0;
@@ -118,11 +120,11 @@ pub fn read_step(line: &[u8]) -> ReadStep
     if line.len() != STEP_CHARS {
         return ReadStep::NoFrame;
     }
-    if !hex::all_hex(line) {
+    if !hex_text::all_hex(line) {
         return ReadStep::NoFrame;
     }
     let mut b = [0u8; STEP_BYTES];
-    hex::unhex(line, &mut b);
+    hex_text::unhex(line, &mut b);
     step_in(b)
 }
 
@@ -209,7 +211,7 @@ pub fn write_frame(f: Frame) -> [u8; STEP_CHARS]
 {
     let b = bytes_of_frame(f);
     let mut out = [0u8; STEP_CHARS];
-    hex::enhex(&b, &mut out);
+    hex_text::enhex(&b, &mut out);
     out
 }
 

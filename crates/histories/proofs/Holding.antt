@@ -11,16 +11,16 @@ use Rattle.base.proofs.Bools.{not_both}
 use Rattle.base.proofs.Facts.{lt_or_le}
 use Rattle.clock.specs.Times.{limit}
 use Rattle.clock.proofs.Order.{before_itself}
-use Rattle.log.specs.declared.Entry.{Entry}
-use Rattle.log.specs.Entries.{zero_entry, entry_at, applied_time}
-use Rattle.log.specs.Logs.{log_limit, live}
-use Rattle.log.specs.Rows.{rows_of}
-use Rattle.log.specs.Ranges.{FitsEntry, FitsLog}
-use Rattle.log.proofs.Live.{entry_at_slot}
-use Rattle.log.proofs.Orderly.{Orderly, orderly, in_order_lem}
-use Rattle.log.proofs.Ranges.{fits_rows_of}
-use Rattle.log.proofs.Rowed.{rows_of_good}
-use Rattle.log.proofs.Tidy.{log_of, tidy_log_of, tidy_highest}
+use Rattle.server_log.specs.declared.Entry.{Entry}
+use Rattle.server_log.specs.Entries.{zero_entry, entry_at, applied_time}
+use Rattle.server_log.specs.Logs.{log_limit, live}
+use Rattle.server_log.specs.Rows.{rows_of}
+use Rattle.server_log.specs.Ranges.{FitsEntry, FitsLog}
+use Rattle.server_log.proofs.Live.{entry_at_slot}
+use Rattle.server_log.proofs.Orderly.{Orderly, orderly, in_order_lem}
+use Rattle.server_log.proofs.Ranges.{fits_rows_of}
+use Rattle.server_log.proofs.Rowed.{rows_of_good}
+use Rattle.server_log.proofs.Tidy.{log_of, tidy_log_of, tidy_highest}
 use Rattle.mail.specs.Mails.{zero_mail}
 use Rattle.mail.proofs.Kept.{zero_good}
 use Rattle.mail.proofs.Ranges.{fits_zero_mail}

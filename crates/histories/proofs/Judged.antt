@@ -16,9 +16,9 @@ use Rattle.base.proofs.Highest.{highest_le, highest_passes, highest_above}
 use Rattle.clock.specs.declared.Time.{Time}
 use Rattle.clock.specs.Times.{zero_time, is_before, same_time}
 use Rattle.clock.proofs.Order.{same_time_eq, same_time_refl}
-use Rattle.log.specs.declared.Entry.{Entry}
-use Rattle.log.specs.Entries.{entry_at}
-use Rattle.log.specs.Order.{highest_key}
+use Rattle.server_log.specs.declared.Entry.{Entry}
+use Rattle.server_log.specs.Entries.{entry_at}
+use Rattle.server_log.specs.Order.{highest_key}
 use Rattle.histories.specs.declared.PhoneRecord.{PhoneRecord}
 use Rattle.histories.specs.Committed.{Committed, committed_limit, same_lengths, could_hold}
 use Rattle.histories.specs.Rules.{write_kind, read_kind, no_record, record_in_range, same_write, write_obeys, last_where, known_time, readable, value_at, not_before, keeps_order, read_obeys, obeys}

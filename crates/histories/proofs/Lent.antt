@@ -5,9 +5,9 @@ use Prim.Native.Nat.{ℕ, zero, suc, ◌-◌, ◌<◌, ◌≤◌, min}
 use native.Mathlib.Nat.{not-suc-le-zero, le_of_suc-le-suc}
 use native.Mathlib.Omega.{arith}
 use lib.ListN.{length, get_or}
-use Rattle.log.specs.declared.Entry.{Entry}
-use Rattle.log.specs.Entries.{zero_entry, entry_at}
-use Rattle.log.proofs.Live.{entry_at_suc}
+use Rattle.server_log.specs.declared.Entry.{Entry}
+use Rattle.server_log.specs.Entries.{zero_entry, entry_at}
+use Rattle.server_log.proofs.Live.{entry_at_suc}
 use Rattle.histories.specs.Obeying.{Together}
 use Rattle.histories.specs.Committed.{Committed, entries_on, entries_of}
 

@@ -15,8 +15,8 @@ use Rattle.base.proofs.Every.{every_none, every_more, every_fails}
 use Rattle.base.proofs.Highest.{highest_here, highest_down}
 use Rattle.clock.specs.declared.Time.{Time}
 use Rattle.clock.specs.Times.{zero_time, same_time}
-use Rattle.log.specs.declared.Entry.{Entry}
-use Rattle.log.specs.Entries.{entry_at}
+use Rattle.server_log.specs.declared.Entry.{Entry}
+use Rattle.server_log.specs.Entries.{entry_at}
 use Rattle.histories.specs.declared.PhoneRecord.{PhoneRecord}
 use Rattle.histories.specs.declared.Seen.{Seen}
 use Rattle.histories.specs.Rules.{no_record, last_where, known_time, readable, value_at, not_before, keeps_order}

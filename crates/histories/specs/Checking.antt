@@ -2,7 +2,7 @@
 -- Assumes nothing.
 use Rattle.std.specs.Prelude.{List, [], ◌∷◌, Bool, cond, ◌&&◌, ℕ, zero, suc, leb, length, get_or, take}
 use Rattle.base.specs.Numbers.{every}
-use Rattle.log.specs.declared.Entry.{Entry}
+use Rattle.server_log.specs.declared.Entry.{Entry}
 use Rattle.steps.specs.declared.Refusal.TheVariants.{IllFormed, OutOfRange}
 use Rattle.steps.specs.Refusals.{decided}
 use Rattle.histories.specs.declared.PhoneRecord.{PhoneRecord}

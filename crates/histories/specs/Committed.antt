@@ -1,8 +1,8 @@
 -- A committed log, lent as five lists, one a field: its entries, and whether a well_formed record could hold them. Assumes nothing.
 use Rattle.std.specs.Prelude.{List, [], ◌∷◌, Bool, ◌&&◌, ℕ, eqb, leb, length}
 use Rattle.clock.specs.Times.{limit}
-use Rattle.log.specs.declared.Entry.{Entry}
-use Rattle.log.specs.Order.{in_order}
+use Rattle.server_log.specs.declared.Entry.{Entry}
+use Rattle.server_log.specs.Order.{in_order}
 
 -- a whole committed log has at most 128 entries
 abbrev pub committed_limit : ℕ

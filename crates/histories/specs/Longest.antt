@@ -1,6 +1,6 @@
 -- The longest beginning that commit points have covered, over records in turn, and as a log to check against. Assumes nothing.
 use Rattle.std.specs.Prelude.{List, [], ◌∷◌, map, cond, ℕ, zero, suc, ltb, length}
-use Rattle.log.specs.declared.Entry.{Entry}
+use Rattle.server_log.specs.declared.Entry.{Entry}
 use Rattle.cluster.specs.declared.Cluster.{Cluster}
 use Rattle.cluster.specs.Servers.{server_count, server_at}
 use Rattle.reads.specs.MajorityRead.{covered}

@@ -2,10 +2,10 @@
 use Rattle.std.specs.Prelude.{◌≡◌, List, true, false, ◌⊎◌, ℕ, ◌<◌, ◌≤◌, length}
 use Rattle.clock.specs.declared.Time.{Time}
 use Rattle.clock.specs.Times.{limit, zero_time, is_before}
-use Rattle.log.specs.declared.Entry.{Entry}
-use Rattle.log.specs.Entries.{entry_at}
-use Rattle.log.specs.Logs.{live}
-use Rattle.log.specs.Order.{highest_key, in_order}
+use Rattle.server_log.specs.declared.Entry.{Entry}
+use Rattle.server_log.specs.Entries.{entry_at}
+use Rattle.server_log.specs.Logs.{live}
+use Rattle.server_log.specs.Order.{highest_key, in_order}
 use Rattle.cluster.specs.declared.Cluster.{Cluster}
 use Rattle.cluster.specs.Ranges.{Fits}
 use Rattle.cluster.specs.Servers.{server_at}

@@ -1,7 +1,7 @@
 -- Which of 02's rules a record breaks, once it is known to break one. Assumes nothing.
 use Rattle.std.specs.Prelude.{◌≡◌, ◌≢◌, List, Bool, true, false, cond, ◌&&◌, eqb, leb, length}
-use Rattle.log.specs.declared.Entry.{Entry}
-use Rattle.log.specs.Entries.{entry_at}
+use Rattle.server_log.specs.declared.Entry.{Entry}
+use Rattle.server_log.specs.Entries.{entry_at}
 use Rattle.histories.specs.declared.PhoneRecord.{PhoneRecord}
 use Rattle.histories.specs.declared.why.Reason.{Reason}
 use Rattle.histories.specs.declared.why.Reason.TheVariants.{NoSuchPosition, OtherEntry, NoSuchTime, OtherValue, TooEarly}

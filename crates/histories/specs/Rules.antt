@@ -3,9 +3,9 @@ use Rattle.std.specs.Prelude.{List, Bool, not, cond, ◌&&◌, ◌||◌, ℕ, eq
 use Rattle.base.specs.Numbers.{every, highest}
 use Rattle.clock.specs.declared.Time.{Time}
 use Rattle.clock.specs.Times.{zero_time, is_before, same_time}
-use Rattle.log.specs.declared.Entry.{Entry}
-use Rattle.log.specs.Entries.{entry_at}
-use Rattle.log.specs.Order.{highest_key}
+use Rattle.server_log.specs.declared.Entry.{Entry}
+use Rattle.server_log.specs.Entries.{entry_at}
+use Rattle.server_log.specs.Order.{highest_key}
 use Rattle.histories.specs.declared.PhoneRecord.{PhoneRecord}
 
 -- kind 6 is a write, kind 11 a majority read

@@ -1,6 +1,6 @@
 -- What the check carries from record to record. Assumes nothing.
 use Rattle.std.specs.Prelude.{List, Bool, cond, ◌&&◌, ℕ, ◌+◌, ltb, set, take, replicate}
-use Rattle.log.specs.declared.Entry.{Entry}
+use Rattle.server_log.specs.declared.Entry.{Entry}
 use Rattle.steps.specs.declared.Refusal.TheVariants.{IllFormed, OutOfRange}
 use Rattle.histories.specs.declared.PhoneRecord.{PhoneRecord}
 use Rattle.histories.specs.declared.Checked.{Checked}

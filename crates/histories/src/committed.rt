@@ -1,13 +1,13 @@
 // A committed log, lent as five slices of numbers, one a field.
 ghost use Rattle.std.specs.Prelude.{◌≡◌, ◌≤◌, min, length};
-ghost use Rattle.log.specs.Entries.{entry_at};
-ghost use Rattle.log.specs.Order.{in_order};
+ghost use Rattle.server_log.specs.Entries.{entry_at};
+ghost use Rattle.server_log.specs.Order.{in_order};
 ghost use Rattle.clock.specs.Times.{limit};
 ghost use Rattle.histories.specs.Committed.{lent, entries_of, same_lengths, could_hold};
 ghost use Rattle.histories.specs.Rules.{known_time, readable, value_at};
 
 use clock::Time;
-use log::Entry;
+use server_log::Entry;
 
 pub(crate) fn lesser(x: usize, y: usize) -> usize
     ensures { result ≡ min x y }
@@ -68,11 +68,11 @@ fn in_order(terms: &[u16], keys: &[u8], values: &[u16], ps: &[u16], ls: &[u16]) 
     ensures { result ≡ in_order limit (entries_of (lent terms.now keys.now values.now ps.now ls.now)) }
 {
     let len = entries(terms, keys, values, ps, ls);
-    let mut d = log::ZERO_ENTRY;
+    let mut d = server_log::ZERO_ENTRY;
     let mut i: usize = 0;
     while i < len {
         let e = entry_at(terms, keys, values, ps, ls, i + 1);
-        if !log::place_ok(clock::LIMIT, i, d, e) {
+        if !server_log::place_ok(clock::LIMIT, i, d, e) {
             return false;
         }
         d = e;

@@ -1,5 +1,7 @@
 // What the phones saw, checked against a committed log: the records lent as a slice of structs, the log as five slices of
 // numbers, one a field.
+#![tactic(auto)]
+
 ghost use Rattle.std.specs.Prelude.{◌≡◌};
 ghost use Rattle.histories.specs.Committed.{lent, entries_of};
 ghost use Rattle.histories.specs.Checking.{check_of};
@@ -15,7 +17,7 @@ pub mod why;
 
 // What a phone logged of a majority write or a majority read that was answered. A session is as wide as every other number
 // that a line of hexadecimal has room for.
-#[derive(Drop)]
+#[derive(Clone, Copy)]
 pub struct PhoneRecord {
     pub session: u16,
     pub kind: u8,
@@ -25,7 +27,7 @@ pub struct PhoneRecord {
     pub time: Time,
 }
 
-#[derive(Drop)]
+#[derive(Clone, Copy)]
 pub enum Checked {
     Accepted,
     // the number of the first record that breaks a rule, counted from 0
@@ -53,7 +55,7 @@ pub const NO_RECORD: PhoneRecord = PhoneRecord {
 };
 
 // What is carried from record to record.
-#[derive(Drop)]
+#[derive(Clone, Copy)]
 struct Seen {
     earlier: [PhoneRecord; MOST_RECORDS],
     count: usize,

@@ -5,13 +5,13 @@ ghost use Rattle.histories.specs.Rules.{record_in_range, same_write, write_obeys
 ghost use Rattle.histories.specs.Walking.{earlier_of};
 
 use crate::{PhoneRecord, Seen, committed};
-use log::Entry;
+use server_log::Entry;
 
 // Whether a record is of one of the two kinds, and its key is not above 15.
 pub fn in_range(r: PhoneRecord) -> bool
     ensures { result ≡ record_in_range r }
 {
-    if log::HIGHEST_KEY < r.key {
+    if server_log::HIGHEST_KEY < r.key {
         return false;
     }
     if r.kind == crate::WRITE_KIND {

@@ -4,9 +4,9 @@ ghost use Rattle.histories.specs.Committed.{lent, entries_of};
 ghost use Rattle.histories.specs.Reasons.{why_write, why_read, why_of};
 
 use crate::{PhoneRecord, committed};
-use log::Entry;
+use server_log::Entry;
 
-#[derive(Drop)]
+#[derive(Clone, Copy)]
 pub enum Reason {
     // a write at position 0 or past the log
     NoSuchPosition,

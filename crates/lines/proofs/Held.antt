@@ -9,7 +9,7 @@ use borrow.Author.Tests.{le-leb, lt-leb, lt-ltb, le-ltb, ne_eqb, eqb-true, leb-t
 use lib.Dec.{leb, ltb, eqb}
 use lib.ListN.{length, take, set, replicate, length-append, length-replicate, length-set, length-take}
 use lib.Seq.{take-suc-set, set_at, append_snoc, length-take-le}
-use Rattle.hex.specs.Lines.{chars}
+use Rattle.hex_text.specs.Lines.{chars}
 use Rattle.words.specs.Words.{framed}
 use Rattle.lines.specs.Held.{too_long, held_line, nothing_held, only_long, pushed, form_of}
 use Rattle.words.proofs.Framed.{framed_other}

@@ -1,4 +1,6 @@
 // A text's lines: the reader of one, lent and changed in place as pieces arrive, and what all that read or write lines share.
+#![tactic(auto)]
+
 ghost use Rattle.std.specs.Prelude.{◌≡◌};
 ghost use Rattle.lines.specs.Texts.{one_more};
 ghost use Rattle.lines.specs.Held.{only_long};
@@ -14,7 +16,7 @@ pub const WIDTH: usize = 26;
 pub const PIECE: usize = 16384;
 
 // The line that is being read: at most so many characters, how many there are, and whether it is too long; then nothing else is kept.
-#[derive(Drop)]
+#[derive(Clone, Copy)]
 pub struct Reader {
     pub held: [u8; WIDTH],
     pub fill: usize,
@@ -22,7 +24,7 @@ pub struct Reader {
 }
 
 // How a turn ended: there may be more to read, or it is over for one of three reasons.
-#[derive(Drop)]
+#[derive(Clone, Copy)]
 pub enum End {
     More,
     Input,

@@ -13,12 +13,12 @@ use Rattle.base.specs.Numbers.{byte}
 use Rattle.base.proofs.Each.{length_each_from, each_at, map_at, taken_map}
 use Rattle.base.proofs.Joined.{refilled}
 use Rattle.words.specs.Words.{byte_at}
-use Rattle.log.specs.declared.Entry.{Entry}
-use Rattle.log.specs.declared.Log.{Log}
-use Rattle.log.specs.Logs.{empty_log, kept, appended}
-use Rattle.log.specs.Rows.{zero_rows}
-use Rattle.log.proofs.Rowed.{rows_are}
-use Rattle.log.proofs.Tidy.{appended_all, appended_again}
+use Rattle.server_log.specs.declared.Entry.{Entry}
+use Rattle.server_log.specs.declared.Log.{Log}
+use Rattle.server_log.specs.Logs.{empty_log, kept, appended}
+use Rattle.server_log.specs.Rows.{zero_rows}
+use Rattle.server_log.proofs.Rowed.{rows_are}
+use Rattle.server_log.proofs.Tidy.{appended_all, appended_again}
 use Rattle.mail.specs.declared.Report.{Report}
 use Rattle.mail.specs.declared.Note.{Note}
 use Rattle.mail.specs.declared.Queue.{Queue}

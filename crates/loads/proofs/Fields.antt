@@ -7,8 +7,8 @@ use native.Mathlib.Omega.{arith}
 use lib.Dec.{eqb}
 use lib.ListN.{length}
 use Rattle.words.specs.Words.{byte_at}
-use Rattle.log.specs.declared.Entry.{Entry}
-use Rattle.log.specs.Logs.{appended}
+use Rattle.server_log.specs.declared.Entry.{Entry}
+use Rattle.server_log.specs.Logs.{appended}
 use Rattle.mail.specs.declared.Report.{Report}
 use Rattle.mail.specs.declared.Note.{Note}
 use Rattle.mail.specs.Mails.{noted, received}

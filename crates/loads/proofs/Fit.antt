@@ -13,11 +13,11 @@ use Rattle.base.proofs.Bools.{and_left, and_right}
 use Rattle.base.proofs.Facts.{lt_or_le}
 use Rattle.base.proofs.Joined.{joined_low, joined_high}
 use Rattle.clock.specs.Times.{limit}
-use Rattle.hex.specs.Lines.{bytes_of}
-use Rattle.hex.proofs.Trips.{byte_below, bytes_below}
+use Rattle.hex_text.specs.Lines.{bytes_of}
+use Rattle.hex_text.proofs.Trips.{byte_below, bytes_below}
 use Rattle.words.specs.Words.{byte_at}
-use Rattle.log.specs.Logs.{appended}
-use Rattle.log.specs.Ranges.{FitsEntry}
+use Rattle.server_log.specs.Logs.{appended}
+use Rattle.server_log.specs.Ranges.{FitsEntry}
 use Rattle.mail.specs.Mails.{noted, received}
 use Rattle.mail.specs.Ranges.{FitsReport}
 use Rattle.mail.proofs.Ranges.{fits_received, fits_noted, fits_sourced}
@@ -28,7 +28,7 @@ use Rattle.cluster.specs.Servers.{most_servers, zero_server, zero_cluster, past_
 use Rattle.cluster.proofs.Changed.{fits_head, fits_log, fits_mail, fits_rowed}
 use Rattle.cluster.proofs.Fresh.{fresh_past, fits_fresh}
 use Rattle.base.proofs.Replaced.{all_set}
-use Rattle.log.proofs.Ranges.{fits_appended}
+use Rattle.server_log.proofs.Ranges.{fits_appended}
 use Rattle.lines.specs.Texts.{lines}
 use Rattle.saved.specs.declared.Sort.{Sort}
 use Rattle.saved.specs.declared.Sort.TheVariants as S

@@ -8,7 +8,7 @@ use native.Mathlib.Omega.{arith}
 use borrow.Author.Tests.{ne_eqb}
 use lib.ListN.{length, get_or, take, drop, length-take, length-drop, take-append-drop, drop_of_length-le}
 use lib.Seq.{take-suc, drop-cons, drop-drop, get_or-drop}
-use Rattle.hex.specs.Lines.{bytes_of}
+use Rattle.hex_text.specs.Lines.{bytes_of}
 use Rattle.lines.specs.Texts.{line_feed, lines}
 use Rattle.lines.proofs.Lines.{Plain, none, more, plain_snoc, line_first, line_last}
 use Rattle.saved.specs.Layout.{Widths}

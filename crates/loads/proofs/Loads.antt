@@ -10,8 +10,8 @@ use lib.ListN.{length, get_or}
 use borrow.Author.Tests.{eq-eqb, eqb-true}
 use Rattle.base.specs.Numbers.{byte}
 use Rattle.base.proofs.Bools.{and_left, and_right, not_both}
-use Rattle.hex.specs.Lines.{bytes_of}
-use Rattle.hex.proofs.Trips.{byte_below, bytes_below}
+use Rattle.hex_text.specs.Lines.{bytes_of}
+use Rattle.hex_text.proofs.Trips.{byte_below, bytes_below}
 use Rattle.cluster.specs.Ranges.{Fits}
 use Rattle.lines.specs.Texts.{line_feed, lines}
 use Rattle.cluster.specs.declared.Cluster.{Cluster}

@@ -10,15 +10,15 @@ use borrow.Author.Tests.{eq-eqb, eqb-true, eqb-false}
 use Rattle.base.specs.Numbers.{byte, count}
 use Rattle.base.proofs.Bools.{and_both}
 use Rattle.base.proofs.Counting.{count_front}
-use Rattle.hex.specs.Lines.{bytes_of, hex_of}
+use Rattle.hex_text.specs.Lines.{bytes_of, hex_of}
 use Rattle.lines.specs.Texts.{lines}
-use Rattle.hex.proofs.Trips.{Bytes, bytes_hex}
-use Rattle.hex.proofs.Places.{hex_length}
+use Rattle.hex_text.proofs.Trips.{Bytes, bytes_hex}
+use Rattle.hex_text.proofs.Places.{hex_length}
 use Rattle.words.specs.Words.{byte_at, framed}
 use Rattle.words.proofs.Framed.{framed_hex, framed_other}
-use Rattle.log.specs.declared.Entry.{Entry}
-use Rattle.log.specs.Logs.{kept}
-use Rattle.log.proofs.Tidy.{tidy_length}
+use Rattle.server_log.specs.declared.Entry.{Entry}
+use Rattle.server_log.specs.Logs.{kept}
+use Rattle.server_log.proofs.Tidy.{tidy_length}
 use Rattle.mail.specs.declared.Report.{Report}
 use Rattle.mail.specs.declared.Note.{Note}
 use Rattle.mail.specs.declared.Queue.{Queue}

@@ -1,11 +1,11 @@
 -- What a text decodes to, frame by frame, with nothing checked. Nobody has to believe this: loading takes the record only where it saves
 -- to that very text in the text's own edition. Assumes nothing.
 use Rattle.std.specs.Prelude.{cond, ◌&&◌, List, [], ◌∷◌, map, ℕ, ◌+◌, ◌-◌, eqb, ltb, leb, replicate}
-use Rattle.hex.specs.Lines.{bytes_of, over}
+use Rattle.hex_text.specs.Lines.{bytes_of, over}
 use Rattle.words.specs.Words.{byte_at}
-use Rattle.log.specs.declared.Entry.{Entry}
-use Rattle.log.specs.Logs.{empty_log, appended}
-use Rattle.log.specs.Rows.{zero_rows}
+use Rattle.server_log.specs.declared.Entry.{Entry}
+use Rattle.server_log.specs.Logs.{empty_log, appended}
+use Rattle.server_log.specs.Rows.{zero_rows}
 use Rattle.mail.specs.declared.Report.{Report}
 use Rattle.mail.specs.Mails.{zero_mail, with_source, noted, received}
 use Rattle.cluster.specs.declared.Head.{Head}

@@ -1,6 +1,8 @@
 // Loading a saved form: its text is decoded frame by frame, and taken where it is what the decoded record saves to in the text's edition.
+#![tactic(auto)]
+
 ghost use Rattle.std.specs.Prelude.{◌≡◌, ◌&&◌, ◌+◌, ◌<◌};
-ghost use Rattle.hex.specs.Lines.{bytes_of};
+ghost use Rattle.hex_text.specs.Lines.{bytes_of};
 ghost use Rattle.words.specs.Words.{word_at};
 ghost use Rattle.saved.specs.declared.Sort.TheVariants as S;
 ghost use Rattle.saved.specs.Layout.{numbers_in, said_at};
@@ -13,9 +15,9 @@ ghost use Rattle.loads.specs.Loads.{same_text, load_of};
 use clock::Time;
 use cluster::{Cluster, Head, Server};
 use lines::LINE_FEED;
-use log::Entry;
 use mail::Report;
 use saved::{ENTRY, FIRST, NOTE, REPORT, SERVER, Saved};
+use server_log::Entry;
 use steps::{Answer, Outcome, Refusal};
 
 // The bytes of a frame in the room of the longest.
@@ -25,7 +27,7 @@ pub const BYTES: usize = saved::SERVER_BYTES;
 pub const PRIMARY: u8 = 1;
 
 // A record that is being decoded, and how many of its servers were begun.
-#[derive(Drop)]
+#[derive(Clone, Copy)]
 struct Draft {
     cluster: Cluster,
     begun: usize,
@@ -60,9 +62,9 @@ fn server_in(b: [u8; BYTES]) -> Server
 {
     Server {
         head: head_in(b),
-        log: log::EMPTY_LOG,
+        log: server_log::EMPTY_LOG,
         mail: mail::with_source(mail::ZERO_MAIL, b[5] as usize),
-        rows: log::rows::ZERO_ROWS,
+        rows: server_log::rows::ZERO_ROWS,
     }
 }
 
@@ -101,7 +103,7 @@ fn told_by(s: Server, b: [u8; BYTES]) -> Server
     let m = s.mail;
     match sort {
         ENTRY => Server {
-            log: log::append(g, entry_in(b)),
+            log: server_log::append(g, entry_in(b)),
             ..s
         },
         NOTE => Server {
@@ -192,7 +194,7 @@ fn with_line(edition: u8, d: Draft, line: &[u8]) -> Draft
     ensures { result ≡ with_frame (edition_numbered editions edition).widths d (roomy (bytes_of line.now)) }
 {
     let mut b = [0u8; BYTES];
-    hex::unhex(line, &mut b);
+    hex_text::unhex(line, &mut b);
     with_frame(edition, d, b)
 }
 

@@ -10,7 +10,7 @@ use borrow.Author.Tests.{leb-true, le-leb, ltb-true, lt-ltb, le-ltb, eqb-true, e
 use Rattle.base.proofs.Bools.{and_both, and_left, and_right, or_left, or_right, or_cases}
 use Rattle.base.proofs.Every.{every_at, every_all}
 use Rattle.base.proofs.Facts.{lt_or_le}
-use Rattle.log.specs.Logs.{highest_position}
+use Rattle.server_log.specs.Logs.{highest_position}
 use Rattle.mail.specs.declared.Report.{Report}
 use Rattle.mail.specs.declared.Note.{Note}
 use Rattle.mail.specs.declared.Queue.{Queue}

@@ -1,7 +1,7 @@
 -- Which mail a well_formed record may hold, as 02 words it. Assumes nothing.
 use Rattle.std.specs.Prelude.{Bool, cond, not, ◌&&◌, ◌||◌, ℕ, suc, eqb, ltb, leb}
 use Rattle.base.specs.Numbers.{every}
-use Rattle.log.specs.Logs.{highest_position}
+use Rattle.server_log.specs.Logs.{highest_position}
 use Rattle.mail.specs.declared.Report.{Report}
 use Rattle.mail.specs.declared.Note.{Note}
 use Rattle.mail.specs.declared.Queue.{Queue}

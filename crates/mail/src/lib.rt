@@ -1,4 +1,6 @@
 // What a server knows of others, by value: a row of notes, a queue of reports and a source.
+#![tactic(auto)]
+
 ghost use Rattle.std.specs.Prelude.{◌≡◌};
 ghost use Rattle.mail.specs.Reports.{note_of, gives_way};
 ghost use Rattle.mail.specs.Queues.{report_at, queued, oldest_taken};
@@ -6,7 +8,7 @@ ghost use Rattle.mail.specs.Mails.{note_at, with_source, noted, received, taken,
 ghost use Rattle.mail.specs.Order.{is_unused, is_used, note_ok, notes_ok, slot_ok, queue_ok, source_ok, mail_ok};
 
 // What a server tells of itself after it took over entries: its number, its term, its last term and its length.
-#[derive(Drop)]
+#[derive(Clone, Copy)]
 pub struct Report {
     pub who: u8,
     pub term: u16,
@@ -15,7 +17,7 @@ pub struct Report {
 }
 
 // The greatest report of one server so far; unused it is zero.
-#[derive(Drop)]
+#[derive(Clone, Copy)]
 pub struct Note {
     pub term: u16,
     pub last: u16,
@@ -23,14 +25,14 @@ pub struct Note {
 }
 
 // Oldest first, slots past the length zero.
-#[derive(Drop)]
+#[derive(Clone, Copy)]
 pub struct Queue {
     pub reports: [Report; QUEUE_LIMIT],
     pub len: usize,
 }
 
 // The source is 0 for none, and a server's number plus 1 otherwise.
-#[derive(Drop)]
+#[derive(Clone, Copy)]
 pub struct Mail {
     pub notes: [Note; NOTE_SLOTS],
     pub queue: Queue,
@@ -225,7 +227,7 @@ pub fn is_used(count: usize, who: usize, n: Note) -> bool
     if n.len < 1 {
         return false;
     }
-    if log::HIGHEST_POSITION < n.len as usize {
+    if server_log::HIGHEST_POSITION < n.len as usize {
         return false;
     }
     if n.last < 1 {

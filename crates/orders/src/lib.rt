@@ -1,4 +1,6 @@
 // What the program is ordered to do: a short line, which the launcher writes.
+#![tactic(auto)]
+
 ghost use Rattle.std.specs.Prelude.{◌≡◌};
 ghost use Rattle.words.specs.Words.{framed};
 ghost use Rattle.orders.specs.Orders.{order_bytes, long_of, orders_of, known_in, orders_in};
@@ -9,7 +11,7 @@ use lines::LINE_FEED;
 
 const BYTES: usize = 12;
 
-const ORDER_CHARS: usize = hex::CHARS * BYTES;
+const ORDER_CHARS: usize = hex_text::CHARS * BYTES;
 
 // How long the line is, with its line feed.
 pub const ORDER_LINE: usize = ORDER_CHARS + 1;
@@ -22,7 +24,7 @@ const ORDER_BITS: usize = 6;
 
 // What a run does beside going through its lines: it begins with a record that is loaded, leaves one that is saved, and writes, in the place of answers,
 // a table of it, the plan that gets it going by writing the value for the key, or a trace, brief or not, of the lines after so many and before so many.
-#[derive(Drop)]
+#[derive(Clone, Copy)]
 pub struct Orders {
     pub load: bool,
     pub save: bool,
@@ -37,7 +39,7 @@ pub struct Orders {
 }
 
 // The orders that a text is, if all of it is known.
-#[derive(Drop)]
+#[derive(Clone, Copy)]
 pub enum Ordered {
     Known(Orders),
     Unknown,
@@ -85,11 +87,11 @@ fn line_in(line: &[u8]) -> Ordered
     if line.len() != ORDER_CHARS {
         return Ordered::Unknown;
     }
-    if !hex::all_hex(line) {
+    if !hex_text::all_hex(line) {
         return Ordered::Unknown;
     }
     let mut b = [0u8; BYTES];
-    hex::unhex(line, &mut b);
+    hex_text::unhex(line, &mut b);
     known_in(b)
 }
 

@@ -1,8 +1,8 @@
 -- Each public function's contract allows one result, whatever the arguments. Assumes nothing.
 use Prim.Native.Nat.{ℕ, max}
 use Rattle.base.proofs.Results.{OneResult, one_result}
-use Rattle.log.specs.declared.Log.{Log}
-use Rattle.log.specs.declared.rows.Latest.{Latest}
+use Rattle.server_log.specs.declared.Log.{Log}
+use Rattle.server_log.specs.declared.rows.Latest.{Latest}
 use Rattle.cluster.specs.declared.Server.{Server}
 use Rattle.pairs.specs.Hears.{hears_of, stays_primary, takes_commit}
 use Rattle.pairs.specs.Pulls.{may_join, pulls_of, took_of}

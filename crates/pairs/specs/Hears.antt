@@ -1,8 +1,8 @@
 -- Kind 3: a hears b. It is always allowed. Assumes nothing.
 use Rattle.std.specs.Prelude.{Bool, cond, not, ◌&&◌, ℕ, max, ltb}
 use Rattle.clock.specs.Times.{later_of}
-use Rattle.log.specs.Entries.{equal_at}
-use Rattle.log.specs.Logs.{live}
+use Rattle.server_log.specs.Entries.{equal_at}
+use Rattle.server_log.specs.Logs.{live}
 use Rattle.cluster.specs.declared.Head.{Head}
 use Rattle.cluster.specs.declared.Server.{Server}
 use Rattle.cluster.specs.Servers.{with_term, with_primary, with_commit, with_time, with_head, with_committed, committed_to}

@@ -1,10 +1,10 @@
 -- Kind 4: a pulls from b. Assumes nothing.
 use Rattle.std.specs.Prelude.{[], ◌∷◌, Bool, not, ◌||◌, ℕ, max, eqb, ltb}
-use Rattle.log.specs.declared.Log.{Log}
-use Rattle.log.specs.declared.rows.Latest.{Latest}
-use Rattle.log.specs.Entries.{equal_at}
-use Rattle.log.specs.Logs.{live, length_of, joined}
-use Rattle.log.specs.Rows.{latest_over, between}
+use Rattle.server_log.specs.declared.Log.{Log}
+use Rattle.server_log.specs.declared.rows.Latest.{Latest}
+use Rattle.server_log.specs.Entries.{equal_at}
+use Rattle.server_log.specs.Logs.{live, length_of, joined}
+use Rattle.server_log.specs.Rows.{latest_over, between}
 use Rattle.cluster.specs.declared.Server.{Server}
 use Rattle.cluster.specs.Servers.{with_commit, with_head, with_log, with_whole, with_committed, committed_to}
 use Rattle.steps.specs.declared.Stepped.{Stepped}

@@ -1,7 +1,7 @@
 -- What a server that took over another's entries tells it: kinds 4 and 5 end so. Assumes nothing.
 use Rattle.std.specs.Prelude.{ℕ, ◌+◌}
-use Rattle.log.specs.Entries.{last_term}
-use Rattle.log.specs.Logs.{live, length_of}
+use Rattle.server_log.specs.Entries.{last_term}
+use Rattle.server_log.specs.Logs.{live, length_of}
 use Rattle.mail.specs.declared.Report.{Report}
 use Rattle.mail.specs.Mails.{with_source}
 use Rattle.cluster.specs.declared.Server.{Server}

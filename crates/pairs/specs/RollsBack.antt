@@ -1,9 +1,9 @@
 -- Kind 5: a rolls back to b. Assumes nothing.
 use Rattle.std.specs.Prelude.{[], ◌∷◌, not, ℕ, ltb, leb}
-use Rattle.log.specs.Entries.{last_term, common_beginning, is_beginning}
-use Rattle.log.specs.declared.Log.{Log}
-use Rattle.log.specs.Logs.{live, length_of, joined}
-use Rattle.log.specs.Rows.{zero_row, latest_over}
+use Rattle.server_log.specs.Entries.{last_term, common_beginning, is_beginning}
+use Rattle.server_log.specs.declared.Log.{Log}
+use Rattle.server_log.specs.Logs.{live, length_of, joined}
+use Rattle.server_log.specs.Rows.{zero_row, latest_over}
 use Rattle.cluster.specs.declared.Server.{Server}
 use Rattle.steps.specs.declared.Stepped.{Stepped}
 use Rattle.steps.specs.declared.Refusal.TheVariants.{WrongRole, ConditionUnmet, BelowCommitPoint}

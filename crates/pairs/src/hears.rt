@@ -4,7 +4,7 @@ ghost use Rattle.pairs.specs.Hears.{takes_commit, stays_primary, hears_of};
 
 use super::greater_term;
 use cluster::{Head, Server};
-use log::rows::Rows;
+use server_log::rows::Rows;
 use steps::{Answer, Sends, Stepped};
 
 // Whether a, hearing b, takes its commit point.
@@ -16,7 +16,7 @@ pub fn takes_commit(s: Server, t: Server) -> bool
     }
     let g = s.log;
     let h = t.log;
-    log::equal_at(g, h, t.head.commit)
+    server_log::equal_at(g, h, t.head.commit)
 }
 
 // Whether a stays primary, hearing b: a higher term makes it secondary.

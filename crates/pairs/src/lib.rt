@@ -1,4 +1,6 @@
 // What a server takes from another: kinds 3, 4 and 5, a module each.
+#![tactic(auto)]
+
 ghost use Rattle.std.specs.Prelude.{◌≡◌, max};
 
 pub mod hears;

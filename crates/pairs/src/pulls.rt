@@ -5,8 +5,8 @@ ghost use Rattle.pairs.specs.Pulls.{may_join, took_of, pulls_of};
 use super::reports::sent;
 use super::{greater, greater_term};
 use cluster::{Head, Server};
-use log::Log;
-use log::rows::{Latest, Rows};
+use server_log::Log;
+use server_log::rows::{Latest, Rows};
 use steps::{Refusal, Stepped};
 
 // Server a with the log g and its row, and the greater term, cluster time and commit point of both.
@@ -43,7 +43,7 @@ pub fn may_join(g: Log, h: Log, n: usize) -> bool
     if n == 0 {
         return true;
     }
-    log::equal_at(g, h, n)
+    server_log::equal_at(g, h, n)
 }
 
 pub fn pulls(s: Server, t: Server, a: u8, b: u8) -> Stepped
@@ -54,16 +54,16 @@ pub fn pulls(s: Server, t: Server, a: u8, b: u8) -> Stepped
     if s.head.primary {
         return steps::refuse(s, Refusal::WrongRole);
     }
-    let n = log::length_of(g);
-    if log::length_of(h) <= n {
+    let n = server_log::length_of(g);
+    if server_log::length_of(h) <= n {
         return steps::refuse(s, Refusal::ConditionUnmet);
     }
     if !may_join(g, h, n) {
         return steps::refuse(s, Refusal::ConditionUnmet);
     }
-    let joined = log::join(g, h, n);
+    let joined = server_log::join(g, h, n);
     let rows = s.rows;
     let before = rows.whole;
-    let whole = log::rows::latest_over(before, joined, n, log::length_of(joined));
+    let whole = server_log::rows::latest_over(before, joined, n, server_log::length_of(joined));
     sent(took(s, t, joined, whole), a, b)
 }

@@ -12,11 +12,11 @@ pub fn sent(s: Server, a: u8, b: u8) -> Stepped
 {
     let g = s.log;
     let m = s.mail;
-    let n = log::length_of(g);
+    let n = server_log::length_of(g);
     let r = Report {
         who: a,
         term: s.head.term,
-        last: log::last_term(g),
+        last: server_log::last_term(g),
         len: steps::number(n),
     };
     let from = b as usize;

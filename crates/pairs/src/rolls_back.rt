@@ -15,20 +15,25 @@ pub fn rolls_back(s: Server, t: Server, a: u8, b: u8) -> Stepped
     if s.head.primary {
         return steps::refuse(s, Refusal::WrongRole);
     }
-    if log::length_of(g) < 1 {
+    if server_log::length_of(g) < 1 {
         return steps::refuse(s, Refusal::ConditionUnmet);
     }
-    if log::last_term(h) <= log::last_term(g) {
+    if server_log::last_term(h) <= server_log::last_term(g) {
         return steps::refuse(s, Refusal::ConditionUnmet);
     }
-    if log::is_beginning(g, h) {
+    if server_log::is_beginning(g, h) {
         return steps::refuse(s, Refusal::ConditionUnmet);
     }
-    let k = log::common_beginning(g, h);
+    let k = server_log::common_beginning(g, h);
     if k < s.head.commit {
         return steps::refuse(s, Refusal::BelowCommitPoint);
     }
-    let joined = log::join(g, h, k);
-    let whole = log::rows::latest_over(log::rows::ZERO_ROW, joined, 0, log::length_of(joined));
+    let joined = server_log::join(g, h, k);
+    let whole = server_log::rows::latest_over(
+        server_log::rows::ZERO_ROW,
+        joined,
+        0,
+        server_log::length_of(joined),
+    );
     sent(took(s, t, joined, whole), a, b)
 }

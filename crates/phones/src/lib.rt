@@ -1,4 +1,6 @@
 // The phones' records as a text: a line of hexadecimal each, read in whatever pieces it arrives, in fixed memory.
+#![tactic(auto)]
+
 ghost use Rattle.std.specs.Prelude.{◌≡◌};
 ghost use Rattle.lines.specs.Readers.{line_held};
 ghost use Rattle.phones.specs.Records.{record_in, read_record};
@@ -13,9 +15,9 @@ use words::word;
 // The bytes of a record, and its line's characters.
 pub const RECORD_BYTES: usize = 12;
 
-pub const RECORD_CHARS: usize = hex::CHARS * RECORD_BYTES;
+pub const RECORD_CHARS: usize = hex_text::CHARS * RECORD_BYTES;
 
-#[derive(Drop)]
+#[derive(Clone, Copy)]
 pub enum ReadRecord {
     Record(PhoneRecord),
     NoRecord,
@@ -23,7 +25,7 @@ pub enum ReadRecord {
 
 // The records of a text as far as it was read, of which one too many is kept; the number of the line that is being read; and whether a
 // line before was bad, whose number it is then.
-#[derive(Drop)]
+#[derive(Clone, Copy)]
 pub struct Listed {
     pub records: [PhoneRecord; MOST_KEPT],
     pub count: usize,
@@ -32,7 +34,7 @@ pub struct Listed {
 }
 
 // A list, and the line that is being read.
-#[derive(Drop)]
+#[derive(Clone, Copy)]
 pub struct Listing {
     pub list: Listed,
     pub reader: Reader,
@@ -61,11 +63,11 @@ pub fn read_record(line: &[u8]) -> ReadRecord
     if line.len() != RECORD_CHARS {
         return ReadRecord::NoRecord;
     }
-    if !hex::all_hex(line) {
+    if !hex_text::all_hex(line) {
         return ReadRecord::NoRecord;
     }
     let mut b: [u8; RECORD_BYTES] = [0; RECORD_BYTES];
-    hex::unhex(line, &mut b);
+    hex_text::unhex(line, &mut b);
     ReadRecord::Record(record_in(b))
 }
 

@@ -2,8 +2,8 @@
 use Rattle.std.specs.Prelude.{Bool, cond, ◌&&◌, List, [], ◌∷◌, ℕ, ◌+◌, leb, ltb, set, replicate}
 use Rattle.base.specs.Numbers.{every}
 use Rattle.clock.specs.Times.{limit, zero_time}
-use Rattle.log.specs.Logs.{has_room}
-use Rattle.log.specs.Order.{highest_key}
+use Rattle.server_log.specs.Logs.{has_room}
+use Rattle.server_log.specs.Order.{highest_key}
 use Rattle.cluster.specs.declared.Head.{Head}
 use Rattle.cluster.specs.declared.Cluster.{Cluster}
 use Rattle.cluster.specs.Servers.{server_count, server_at}

@@ -3,7 +3,7 @@
 use Rattle.std.specs.Prelude.{Bool, cond, ◌||◌, List, [], ◌∷◌, ℕ, leb}
 use Rattle.base.specs.Numbers.{every}
 use Rattle.clock.specs.Times.{zero_time}
-use Rattle.log.specs.Logs.{has_room}
+use Rattle.server_log.specs.Logs.{has_room}
 use Rattle.cluster.specs.declared.Cluster.{Cluster}
 use Rattle.cluster.specs.declared.Server.{Server}
 use Rattle.cluster.specs.Servers.{server_count, server_at}

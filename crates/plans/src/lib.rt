@@ -1,4 +1,6 @@
 // How to get going again: the frames of a plan, made by trying its steps on the record.
+#![tactic(auto)]
+
 ghost use Rattle.std.specs.Prelude.{◌≡◌, cond, ◌<◌, ◌≤◌};
 ghost use Rattle.cluster.specs.Servers.{most_servers, server_count};
 ghost use Rattle.cluster.specs.Sets.{votes};
@@ -26,7 +28,7 @@ const ZERO_FRAME: Frame = Frame {
 };
 
 // The frames, zero past their number, and done; or none, and the refusal.
-#[derive(Drop)]
+#[derive(Clone, Copy)]
 pub struct Planned {
     pub frames: [Frame; MOST_FRAMES],
     pub count: usize,
@@ -34,28 +36,28 @@ pub struct Planned {
 }
 
 // A plan while it is made, and the record that its steps lead to.
-#[derive(Drop)]
+#[derive(Clone, Copy)]
 pub struct Work {
     pub cluster: Cluster,
     pub plan: Planned,
 }
 
 // What servers are compared by: the log, of those that vote; the term.
-#[derive(Drop)]
+#[derive(Clone, Copy)]
 pub enum By {
     Log,
     Term,
 }
 
 // What every server has to have: room in its log; numbers that may grow.
-#[derive(Drop)]
+#[derive(Clone, Copy)]
 pub enum Need {
     Room,
     Low,
 }
 
 // The lines of the plan that have a move for each other server.
-#[derive(Drop)]
+#[derive(Clone, Copy)]
 pub enum Line {
     Copies,
     Takes,
@@ -267,7 +269,7 @@ fn has_need(s: Server, need: Need) -> bool
     let g = s.log;
     let h = s.head;
     match need {
-        Need::Room => log::has_room(g),
+        Need::Room => server_log::has_room(g),
         Need::Low => is_low(h),
     }
 }
@@ -332,7 +334,7 @@ pub fn plan(c: Cluster, key: u8, value: u16) -> Planned
     if !cluster::well_formed(c) {
         return no_frames(Answer::Refused(Refusal::IllFormed));
     }
-    if log::HIGHEST_KEY < key {
+    if server_log::HIGHEST_KEY < key {
         return no_frames(Answer::Refused(Refusal::OutOfRange));
     }
     if value < 1 {

@@ -14,9 +14,9 @@ use Rattle.clock.specs.declared.Time.{Time}
 use Rattle.clock.specs.Times.{later_of}
 use Rattle.clock.proofs.Order.{not_before, later_either}
 use Rattle.clock.proofs.Ticks.{tick_p}
-use Rattle.log.specs.Entries.{applied_time, entry_at}
-use Rattle.log.specs.Logs.{live}
-use Rattle.log.proofs.Orderly.{not_after_last}
+use Rattle.server_log.specs.Entries.{applied_time, entry_at}
+use Rattle.server_log.specs.Logs.{live}
+use Rattle.server_log.proofs.Orderly.{not_after_last}
 use Rattle.cluster.specs.declared.Server.{Server}
 use Rattle.cluster.specs.declared.Cluster.{Cluster}
 use Rattle.cluster.specs.Servers.{server_count, server_at, with_server, voted_of, elected_all, clocked_of, clocks_set}

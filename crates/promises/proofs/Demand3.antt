@@ -10,11 +10,11 @@ use borrow.Author.Tests.{ltb-true}
 use Rattle.clock.specs.declared.Time.{Time}
 use Rattle.clock.specs.Times.{is_before}
 use Rattle.clock.proofs.Order.{not_after_trans}
-use Rattle.log.specs.Entries.{entry_at}
-use Rattle.log.specs.Logs.{live, length_of}
-use Rattle.log.specs.Ranges.{FitsLog}
-use Rattle.log.proofs.Latest.{found, latest_found, key_of, value_of, found_at}
-use Rattle.log.proofs.Live.{entry_at_take}
+use Rattle.server_log.specs.Entries.{entry_at}
+use Rattle.server_log.specs.Logs.{live, length_of}
+use Rattle.server_log.specs.Ranges.{FitsLog}
+use Rattle.server_log.proofs.Latest.{found, latest_found, key_of, value_of, found_at}
+use Rattle.server_log.proofs.Live.{entry_at_take}
 use Rattle.cluster.specs.declared.Server.{Server}
 use Rattle.cluster.specs.declared.Cluster.{Cluster}
 use Rattle.cluster.specs.Servers.{server_count, server_at}

@@ -9,13 +9,13 @@ use lib.Dec.{eqb, ltb}
 use lib.ListN.{length, length-append}
 use borrow.Author.Tests.{eq-eqb, ltb-true, eqb-true, eqb-false}
 use Rattle.base.specs.Lists.{joined_at}
-use Rattle.log.specs.declared.Entry.{Entry}
-use Rattle.log.specs.declared.Log.{Log}
-use Rattle.log.specs.Entries.{entry_at}
-use Rattle.log.specs.Logs.{live, length_of, joined, appended, has_room}
-use Rattle.log.proofs.Tidy.{Tidy, live_appended, live_joined}
-use Rattle.log.proofs.Positions.{last_more}
-use Rattle.log.proofs.Common.{common_le}
+use Rattle.server_log.specs.declared.Entry.{Entry}
+use Rattle.server_log.specs.declared.Log.{Log}
+use Rattle.server_log.specs.Entries.{entry_at}
+use Rattle.server_log.specs.Logs.{live, length_of, joined, appended, has_room}
+use Rattle.server_log.proofs.Tidy.{Tidy, live_appended, live_joined}
+use Rattle.server_log.proofs.Positions.{last_more}
+use Rattle.server_log.proofs.Common.{common_le}
 use Rattle.clock.specs.declared.Time.{Time}
 use Rattle.cluster.specs.declared.Cluster.{Cluster}
 use Rattle.cluster.specs.declared.Server.{Server}

@@ -14,9 +14,9 @@ use lib.Seq.{take-append-le, take-append_seam, get_or-append_seam}
 use borrow.Author.Tests.{le-leb}
 use Rattle.base.proofs.Bools.{and_both, and_right}
 use Rattle.base.proofs.Every.{every_all}
-use Rattle.log.specs.declared.Entry.{Entry}
-use Rattle.log.proofs.Common.{Beginning, beginning, beginning_trans}
-use Rattle.log.proofs.Orderly.{orderly}
+use Rattle.server_log.specs.declared.Entry.{Entry}
+use Rattle.server_log.proofs.Common.{Beginning, beginning, beginning_trans}
+use Rattle.server_log.proofs.Orderly.{orderly}
 use Rattle.cluster.specs.declared.Cluster.{Cluster}
 use Rattle.cluster.specs.Servers.{server_at, fresh_cluster}
 use Rattle.steps.specs.declared.Step.TheVariants.{Writes}

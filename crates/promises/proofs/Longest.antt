@@ -6,9 +6,9 @@ use mathlib.Core.List.{List, [], ◌∷◌, Memᴰ as Among}
 use Prim.Native.Nat.{ℕ, ◌≤◌}
 use native.Mathlib.Omega.{arith}
 use lib.ListN.{length, take}
-use Rattle.log.specs.declared.Entry.{Entry}
-use Rattle.log.specs.Entries.{is_beginning}
-use Rattle.log.specs.Logs.{live}
+use Rattle.server_log.specs.declared.Entry.{Entry}
+use Rattle.server_log.specs.Entries.{is_beginning}
+use Rattle.server_log.specs.Logs.{live}
 use Rattle.cluster.specs.declared.Cluster.{Cluster}
 use Rattle.cluster.specs.Servers.{server_count, server_at}
 use Rattle.cluster.proofs.Good.{size_good}

@@ -9,10 +9,10 @@ use Prim.Native.Nat.{ℕ, ◌≤◌, ◌<◌}
 use native.Mathlib.Omega.{arith}
 use lib.ListN.{length, take}
 use lib.Seq.{length-take-le, take-take}
-use Rattle.log.specs.Entries.{is_beginning}
-use Rattle.log.specs.Logs.{live, length_of}
-use Rattle.log.specs.Ranges.{FitsLog}
-use Rattle.log.proofs.Common.{first_beginning}
+use Rattle.server_log.specs.Entries.{is_beginning}
+use Rattle.server_log.specs.Logs.{live, length_of}
+use Rattle.server_log.specs.Ranges.{FitsLog}
+use Rattle.server_log.proofs.Common.{first_beginning}
 use Rattle.cluster.specs.declared.Cluster.{Cluster}
 use Rattle.cluster.specs.Servers.{server_count, server_at}
 use Rattle.reads.specs.MajorityRead.{covered}

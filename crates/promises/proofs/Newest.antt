@@ -11,14 +11,14 @@ use lib.ListN.{length, take}
 use lib.Seq.{length-take-le, take-take}
 use Rattle.base.proofs.Bools.{not_both}
 use Rattle.clock.specs.Times.{is_before}
-use Rattle.log.specs.declared.Entry.{Entry}
-use Rattle.log.specs.Entries.{entry_at, latest_value}
-use Rattle.log.specs.Logs.{live, length_of}
-use Rattle.log.specs.Ranges.{FitsLog}
-use Rattle.log.proofs.Common.{first_beginning}
-use Rattle.log.proofs.Latest.{found, latest_found, found_le, found_key, found_last, key_of, value_of, latest_first}
-use Rattle.log.proofs.Live.{entry_at_take}
-use Rattle.log.proofs.Positions as P
+use Rattle.server_log.specs.declared.Entry.{Entry}
+use Rattle.server_log.specs.Entries.{entry_at, latest_value}
+use Rattle.server_log.specs.Logs.{live, length_of}
+use Rattle.server_log.specs.Ranges.{FitsLog}
+use Rattle.server_log.proofs.Common.{first_beginning}
+use Rattle.server_log.proofs.Latest.{found, latest_found, found_le, found_key, found_last, key_of, value_of, latest_first}
+use Rattle.server_log.proofs.Live.{entry_at_take}
+use Rattle.server_log.proofs.Positions as P
 use Rattle.cluster.specs.declared.Cluster.{Cluster}
 use Rattle.cluster.specs.Servers.{server_at}
 use Rattle.steps.specs.declared.Step.TheVariants.{WritesNothing}

@@ -9,8 +9,8 @@ use native.Mathlib.Omega.{arith}
 use Rattle.base.proofs.Cases.{◌▸◌}
 use Rattle.clock.specs.declared.Time.{Time}
 use Rattle.clock.specs.Times.{zero_time}
-use Rattle.log.specs.Entries.{has_entry}
-use Rattle.log.specs.Logs.{may_ask}
+use Rattle.server_log.specs.Entries.{has_entry}
+use Rattle.server_log.specs.Logs.{may_ask}
 use Rattle.cluster.specs.declared.Cluster.{Cluster}
 use Rattle.cluster.specs.Servers.{server_at, fresh_cluster}
 use Rattle.steps.specs.declared.Step.{Step}

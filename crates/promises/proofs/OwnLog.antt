@@ -12,13 +12,13 @@ use lib.Seq.{take-length}
 use borrow.Author.Tests.{le-leb, eq-eqb}
 use Rattle.base.proofs.Bools.{and_both}
 use Rattle.clock.specs.Times.{limit, zero_time}
-use Rattle.log.specs.declared.Entry.{Entry}
-use Rattle.log.specs.Entries.{entry_at}
-use Rattle.log.specs.Logs.{live}
-use Rattle.log.proofs.Common.{is_beginning}
-use Rattle.log.proofs.Live.{entry_at_take}
-use Rattle.log.proofs.Orderly.{Orderly, in_order_lem, orderly_first}
-use Rattle.log.proofs.Tidy.{tidy_highest}
+use Rattle.server_log.specs.declared.Entry.{Entry}
+use Rattle.server_log.specs.Entries.{entry_at}
+use Rattle.server_log.specs.Logs.{live}
+use Rattle.server_log.proofs.Common.{is_beginning}
+use Rattle.server_log.proofs.Live.{entry_at_take}
+use Rattle.server_log.proofs.Orderly.{Orderly, in_order_lem, orderly_first}
+use Rattle.server_log.proofs.Tidy.{tidy_highest}
 use Rattle.cluster.specs.declared.Cluster.{Cluster}
 use Rattle.cluster.specs.Servers.{server_at}
 use Rattle.cluster.proofs.Good.{ServerGood, good}

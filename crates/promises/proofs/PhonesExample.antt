@@ -14,8 +14,8 @@ use borrow.Author.Tests.{eqb-false}
 use Rattle.base.proofs.Cases.{case_at, ◌▸◌}
 use Rattle.clock.specs.declared.Time.{Time}
 use Rattle.clock.specs.Times.{zero_time, is_before}
-use Rattle.log.specs.Entries.{entry_at, has_entry}
-use Rattle.log.specs.Logs.{may_ask, live}
+use Rattle.server_log.specs.Entries.{entry_at, has_entry}
+use Rattle.server_log.specs.Logs.{may_ask, live}
 use Rattle.cluster.specs.declared.Cluster.{Cluster}
 use Rattle.cluster.specs.Servers.{server_at, fresh_cluster}
 use Rattle.steps.specs.declared.Step.{Step}

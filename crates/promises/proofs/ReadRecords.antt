@@ -17,13 +17,13 @@ use Rattle.base.proofs.Highest.{highest_from, highest_is}
 use Rattle.clock.specs.declared.Time.{Time}
 use Rattle.clock.specs.Times.{limit, zero_time, is_before, same_time}
 use Rattle.clock.proofs.Order.{not_after_trans, same_time_refl, before_total, not_before_is}
-use Rattle.log.specs.declared.Entry.{Entry}
-use Rattle.log.specs.Entries.{entry_at, applied_time, latest_value}
-use Rattle.log.specs.Logs.{live}
-use Rattle.log.proofs.Common.{Beginning, beginning_at}
-use Rattle.log.proofs.Latest.{found, latest_found, found_le, found_key, found_last}
-use Rattle.log.proofs.Live.{entry_at_zero, entry_at_take}
-use Rattle.log.proofs.Orderly.{Orderly, later_time, not_after}
+use Rattle.server_log.specs.declared.Entry.{Entry}
+use Rattle.server_log.specs.Entries.{entry_at, applied_time, latest_value}
+use Rattle.server_log.specs.Logs.{live}
+use Rattle.server_log.proofs.Common.{Beginning, beginning_at}
+use Rattle.server_log.proofs.Latest.{found, latest_found, found_le, found_key, found_last}
+use Rattle.server_log.proofs.Live.{entry_at_zero, entry_at_take}
+use Rattle.server_log.proofs.Orderly.{Orderly, later_time, not_after}
 use Rattle.cluster.specs.declared.Cluster.{Cluster}
 use Rattle.cluster.specs.Servers.{server_count, server_at}
 use Rattle.steps.specs.declared.Step.TheVariants.{MajorityRead}

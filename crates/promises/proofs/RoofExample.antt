@@ -11,11 +11,11 @@ use Rattle.base.specs.Lists.{each_from}
 use Rattle.base.proofs.Bools.{not_both}
 use Rattle.base.proofs.Cases.{◌▸◌}
 use Rattle.clock.specs.Times.{zero_time, is_before, same_time, later_of, tick_of}
-use Rattle.log.specs.declared.Entry.{Entry}
-use Rattle.log.specs.Entries.{same_entry, entry_at, equal_at, common_beginning, latest_value}
-use Rattle.log.specs.Logs.{live, has_room, appended}
-use Rattle.log.specs.Order.{entry_ok, follows, place_ok, in_order, rest_zero, is_empty_log, log_ok}
-use Rattle.log.specs.Rows.{latest_after, row_ok, rows_ok}
+use Rattle.server_log.specs.declared.Entry.{Entry}
+use Rattle.server_log.specs.Entries.{same_entry, entry_at, equal_at, common_beginning, latest_value}
+use Rattle.server_log.specs.Logs.{live, has_room, appended}
+use Rattle.server_log.specs.Order.{entry_ok, follows, place_ok, in_order, rest_zero, is_empty_log, log_ok}
+use Rattle.server_log.specs.Rows.{latest_after, row_ok, rows_ok}
 use Rattle.mail.specs.Reports.{gives_way}
 use Rattle.mail.specs.Queues.{queued, oldest_taken}
 use Rattle.mail.specs.Mails.{noted}

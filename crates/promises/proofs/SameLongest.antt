@@ -2,7 +2,7 @@
 use mathlib.Core.Path.{◌≡◌, refl, ap, ◌∙◌}
 use mathlib.Core.List.{List, [], ◌∷◌, map}
 use Prim.Native.Nat.{ℕ}
-use Rattle.log.specs.declared.Entry.{Entry}
+use Rattle.server_log.specs.declared.Entry.{Entry}
 use Rattle.cluster.specs.declared.Cluster.{Cluster}
 use Rattle.rules.specs.Rules.{step_of}
 use Rattle.frames.specs.declared.ReadStep.{ReadStep}

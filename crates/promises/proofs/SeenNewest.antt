@@ -10,11 +10,11 @@ use lib.ListN.{length}
 use borrow.Author.Tests.{ltb-true, leb-true, eqb-true}
 use Rattle.base.proofs.Bools.{and_left, and_right}
 use Rattle.clock.specs.declared.Time.{Time}
-use Rattle.log.specs.Entries.{has_entry, latest_value}
-use Rattle.log.specs.Logs.{highest_position, may_ask, live, length_of, appended}
-use Rattle.log.specs.Order.{highest_key, no_key}
-use Rattle.log.proofs.Orderly.{Writing}
-use Rattle.log.proofs.Positions.{length_more}
+use Rattle.server_log.specs.Entries.{has_entry, latest_value}
+use Rattle.server_log.specs.Logs.{highest_position, may_ask, live, length_of, appended}
+use Rattle.server_log.specs.Order.{highest_key, no_key}
+use Rattle.server_log.proofs.Orderly.{Writing}
+use Rattle.server_log.proofs.Positions.{length_more}
 use Rattle.cluster.specs.declared.Cluster.{Cluster}
 use Rattle.cluster.specs.Ranges.{Fits}
 use Rattle.cluster.specs.Servers.{server_count, server_at}

@@ -9,7 +9,7 @@ use lib.Dec.{eqb}
 use Rattle.base.specs.Numbers.{count}
 use Rattle.base.proofs.Cases.{◌▸◌}
 use Rattle.clock.specs.Times.{zero_time}
-use Rattle.log.specs.Logs.{live}
+use Rattle.server_log.specs.Logs.{live}
 use Rattle.mail.specs.Mails.{note_at}
 use Rattle.cluster.specs.declared.Cluster.{Cluster}
 use Rattle.cluster.specs.Servers.{server_at, fresh_cluster}

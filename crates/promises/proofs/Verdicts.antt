@@ -7,7 +7,7 @@ use mathlib.Core.List.{List, [], ◌∷◌, map}
 use Prim.Native.Nat.{ℕ, ◌≤◌}
 use lib.ListN.{length}
 use Rattle.base.proofs.Bools.{and_left, and_right, not_both}
-use Rattle.log.specs.declared.Entry.{Entry}
+use Rattle.server_log.specs.declared.Entry.{Entry}
 use Rattle.cluster.specs.declared.Cluster.{Cluster}
 use Rattle.cluster.specs.Servers.{zero_cluster, fresh_cluster}
 use Rattle.steps.specs.declared.Answer.{Answer}

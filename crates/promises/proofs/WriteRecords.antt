@@ -11,13 +11,13 @@ use borrow.Author.Tests.{ltb-true, leb-true, le-leb, eqb-true, eq-eqb}
 use Rattle.base.proofs.Bools.{and_both, and_left, and_right}
 use Rattle.clock.specs.declared.Time.{Time}
 use Rattle.clock.proofs.Order.{same_time_refl}
-use Rattle.log.specs.declared.Entry.{Entry}
-use Rattle.log.specs.Entries.{entry_at, has_entry}
-use Rattle.log.specs.Logs.{may_ask, live, length_of, appended}
-use Rattle.log.specs.Order.{highest_key}
-use Rattle.log.proofs.Common.{Beginning, beginning_at}
-use Rattle.log.proofs.Live.{entry_at_take}
-use Rattle.log.proofs.Positions.{length_more, entry_at_new}
+use Rattle.server_log.specs.declared.Entry.{Entry}
+use Rattle.server_log.specs.Entries.{entry_at, has_entry}
+use Rattle.server_log.specs.Logs.{may_ask, live, length_of, appended}
+use Rattle.server_log.specs.Order.{highest_key}
+use Rattle.server_log.proofs.Common.{Beginning, beginning_at}
+use Rattle.server_log.proofs.Live.{entry_at_take}
+use Rattle.server_log.proofs.Positions.{length_more, entry_at_new}
 use Rattle.cluster.specs.declared.Server.{Server}
 use Rattle.cluster.specs.declared.Cluster.{Cluster}
 use Rattle.cluster.specs.Servers.{server_count, server_at}

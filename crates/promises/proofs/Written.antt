@@ -17,8 +17,8 @@ use Rattle.steps.specs.declared.Refusal.{Refusal}
 use Rattle.steps.specs.declared.Refusal.TheVariants.{BelowCommitPoint}
 use Rattle.steps.specs.declared.Telling.TheVariants.{Numbers, Refusing}
 use Rattle.steps.specs.Answers.{telling_of}
-use Rattle.hex.specs.Digits.{radix, ten, char0, char_a, char_of}
-use Rattle.hex.specs.Lines.{hex_of}
+use Rattle.hex_text.specs.Digits.{radix, ten, char0, char_a, char_of}
+use Rattle.hex_text.specs.Lines.{hex_of}
 use Rattle.answers.specs.declared.ReadAnswer.TheVariants as A
 use Rattle.words.specs.Words.{framed}
 use Rattle.answers.specs.Answers.{answer_frame, bytes_of_telling, write_telling, write_answer, read_answer}

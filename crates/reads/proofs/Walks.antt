@@ -6,10 +6,10 @@ use native.Mathlib.Omega.{arith}
 use borrow.Author.Tests.{le-leb}
 use Rattle.clock.specs.declared.Time.{Time}
 use Rattle.clock.specs.Times.{is_before}
-use Rattle.log.specs.Entries.{latest_value}
-use Rattle.log.specs.Logs.{live}
-use Rattle.log.specs.Order.{highest_key}
-use Rattle.log.specs.Rows.{value_for}
+use Rattle.server_log.specs.Entries.{latest_value}
+use Rattle.server_log.specs.Logs.{live}
+use Rattle.server_log.specs.Order.{highest_key}
+use Rattle.server_log.specs.Rows.{value_for}
 use Rattle.cluster.specs.declared.Server.{Server}
 use Rattle.cluster.proofs.Good.{ServerGood}
 use Rattle.steps.specs.declared.Answer.TheVariants.{Value}

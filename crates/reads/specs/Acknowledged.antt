@@ -1,7 +1,7 @@
 -- Kind 12: server a is asked about a position and a term, in a cluster of so many servers. Assumes nothing.
 use Rattle.std.specs.Prelude.{[], ◌∷◌, ℕ, eqb, leb}
-use Rattle.log.specs.Entries.{entry_at, has_entry}
-use Rattle.log.specs.Logs.{may_ask, live}
+use Rattle.server_log.specs.Entries.{entry_at, has_entry}
+use Rattle.server_log.specs.Logs.{may_ask, live}
 use Rattle.cluster.specs.declared.Server.{Server}
 use Rattle.steps.specs.declared.Sends.TheVariants.{Nothing}
 use Rattle.steps.specs.declared.Stepped.{Stepped}

@@ -1,6 +1,6 @@
 -- All sixteen values of a server at once, with their time: for each key what kind 10, or kind 11, would answer now. Assumes nothing.
-use Rattle.log.specs.Entries.{applied_time}
-use Rattle.log.specs.Logs.{live}
+use Rattle.server_log.specs.Entries.{applied_time}
+use Rattle.server_log.specs.Logs.{live}
 use Rattle.cluster.specs.declared.Server.{Server}
 use Rattle.reads.specs.declared.lists.Listed.{Listed}
 use Rattle.reads.specs.MajorityRead.{commit_time}

@@ -2,10 +2,10 @@
 use Rattle.std.specs.Prelude.{[], ◌∷◌, not, ℕ, leb}
 use Rattle.clock.specs.declared.Time.{Time}
 use Rattle.clock.specs.Times.{is_before}
-use Rattle.log.specs.Entries.{applied_time}
-use Rattle.log.specs.Logs.{live}
-use Rattle.log.specs.Order.{highest_key}
-use Rattle.log.specs.Rows.{value_for}
+use Rattle.server_log.specs.Entries.{applied_time}
+use Rattle.server_log.specs.Logs.{live}
+use Rattle.server_log.specs.Order.{highest_key}
+use Rattle.server_log.specs.Rows.{value_for}
 use Rattle.cluster.specs.declared.Server.{Server}
 use Rattle.steps.specs.declared.Sends.TheVariants.{Nothing}
 use Rattle.steps.specs.declared.Stepped.{Stepped}

@@ -1,10 +1,10 @@
 -- Kind 11: majority read at a. Assumes nothing.
 use Rattle.std.specs.Prelude.{List, ℕ, take}
 use Rattle.clock.specs.declared.Time.{Time}
-use Rattle.log.specs.declared.Entry.{Entry}
-use Rattle.log.specs.Entries.{entry_at}
-use Rattle.log.specs.Logs.{live}
-use Rattle.log.specs.Rows.{value_for}
+use Rattle.server_log.specs.declared.Entry.{Entry}
+use Rattle.server_log.specs.Entries.{entry_at}
+use Rattle.server_log.specs.Logs.{live}
+use Rattle.server_log.specs.Rows.{value_for}
 use Rattle.cluster.specs.declared.Server.{Server}
 use Rattle.steps.specs.declared.Sends.TheVariants.{Nothing}
 use Rattle.steps.specs.declared.Stepped.{Stepped}

@@ -1,8 +1,8 @@
 -- Kind 15: newest read at a, of the entries up to a position. Assumes nothing.
 use Rattle.std.specs.Prelude.{[], ◌∷◌, ℕ, eqb, leb}
-use Rattle.log.specs.Entries.{entry_at, has_entry}
-use Rattle.log.specs.Logs.{may_ask, live, latest_in}
-use Rattle.log.specs.Order.{highest_key}
+use Rattle.server_log.specs.Entries.{entry_at, has_entry}
+use Rattle.server_log.specs.Logs.{may_ask, live, latest_in}
+use Rattle.server_log.specs.Order.{highest_key}
 use Rattle.cluster.specs.declared.Server.{Server}
 use Rattle.steps.specs.declared.Sends.TheVariants.{Nothing}
 use Rattle.steps.specs.declared.Stepped.{Stepped}

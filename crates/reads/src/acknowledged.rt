@@ -12,20 +12,20 @@ pub fn acknowledged(size: usize, s: Server, k: usize, n: usize, term: u16) -> St
     if size < k {
         return steps::refuse(s, Refusal::OutOfRange);
     }
-    if !log::may_ask(n, term) {
+    if !server_log::may_ask(n, term) {
         return steps::refuse(s, Refusal::OutOfRange);
     }
     if k != 0 {
         return steps::refuse(s, Refusal::Retired);
     }
     let g = s.log;
-    if !log::has_entry(g, n, term) {
+    if !server_log::has_entry(g, n, term) {
         return steps::refuse(s, Refusal::NoSuchEntry);
     }
     if s.head.commit < n {
         return steps::refuse(s, Refusal::NotYet);
     }
-    let e = log::entry_at(g, n);
+    let e = server_log::entry_at(g, n);
     let time = e.time;
     Stepped {
         server: s,

@@ -4,9 +4,9 @@ ghost use Rattle.reads.specs.Lists.{whole_list, committed_list};
 
 use clock::Time;
 use cluster::Server;
-use log::rows::Latest;
+use server_log::rows::Latest;
 
-#[derive(Drop)]
+#[derive(Clone, Copy)]
 pub struct Listed {
     pub latest: Latest,
     pub time: Time,
@@ -21,7 +21,7 @@ pub fn whole_list(s: Server) -> Listed
     let whole = rows.whole;
     Listed {
         latest: whole,
-        time: log::applied_time(g),
+        time: server_log::applied_time(g),
     }
 }
 
@@ -34,6 +34,6 @@ pub fn committed_list(s: Server) -> Listed
     let committed = rows.committed;
     Listed {
         latest: committed,
-        time: log::time_at(g, s.head.commit),
+        time: server_log::time_at(g, s.head.commit),
     }
 }

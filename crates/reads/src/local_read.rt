@@ -9,11 +9,11 @@ use steps::{Answer, Refusal, Sends, Stepped};
 pub fn local_read(s: Server, key: u8, asked: Time) -> Stepped
     ensures { result ≡ local_read_of s key asked }
 {
-    if log::HIGHEST_KEY < key {
+    if server_log::HIGHEST_KEY < key {
         return steps::refuse(s, Refusal::OutOfRange);
     }
     let g = s.log;
-    let reached = log::applied_time(g);
+    let reached = server_log::applied_time(g);
     if clock::is_before(reached, asked) {
         return steps::refuse(s, Refusal::NotYet);
     }
@@ -21,7 +21,7 @@ pub fn local_read(s: Server, key: u8, asked: Time) -> Stepped
     let whole = rows.whole;
     Stepped {
         server: s,
-        answer: Answer::Value(log::rows::value_for(whole, key), reached),
+        answer: Answer::Value(server_log::rows::value_for(whole, key), reached),
         sends: Sends::Nothing,
     }
 }

@@ -9,12 +9,12 @@ use steps::{Answer, Refusal, Sends, Stepped};
 pub fn majority_read(s: Server, key: u8, asked: Time) -> Stepped
     ensures { result ≡ majority_read_of s key asked }
 {
-    if log::HIGHEST_KEY < key {
+    if server_log::HIGHEST_KEY < key {
         return steps::refuse(s, Refusal::OutOfRange);
     }
     let g = s.log;
     let n = s.head.commit;
-    let reached = log::time_at(g, n);
+    let reached = server_log::time_at(g, n);
     if clock::is_before(reached, asked) {
         return steps::refuse(s, Refusal::NotYet);
     }
@@ -22,7 +22,7 @@ pub fn majority_read(s: Server, key: u8, asked: Time) -> Stepped
     let committed = rows.committed;
     Stepped {
         server: s,
-        answer: Answer::Value(log::rows::value_for(committed, key), reached),
+        answer: Answer::Value(server_log::rows::value_for(committed, key), reached),
         sends: Sends::Nothing,
     }
 }

@@ -8,10 +8,10 @@ use steps::{Answer, Refusal, Sends, Stepped};
 pub fn newest_read(s: Server, key: u8, n: usize, term: u16) -> Stepped
     ensures { result ≡ newest_read_of s key n term }
 {
-    if log::HIGHEST_KEY < key {
+    if server_log::HIGHEST_KEY < key {
         return steps::refuse(s, Refusal::OutOfRange);
     }
-    if !log::may_ask(n, term) {
+    if !server_log::may_ask(n, term) {
         return steps::refuse(s, Refusal::OutOfRange);
     }
     if !s.head.primary {
@@ -21,7 +21,7 @@ pub fn newest_read(s: Server, key: u8, n: usize, term: u16) -> Stepped
         return steps::refuse(s, Refusal::WrongRole);
     }
     let g = s.log;
-    if !log::has_entry(g, n, term) {
+    if !server_log::has_entry(g, n, term) {
         return steps::refuse(s, Refusal::NoSuchEntry);
     }
     if s.head.commit < n {
@@ -29,7 +29,10 @@ pub fn newest_read(s: Server, key: u8, n: usize, term: u16) -> Stepped
     }
     Stepped {
         server: s,
-        answer: Answer::Value(log::latest_value(g, key, n), log::time_at(g, n)),
+        answer: Answer::Value(
+            server_log::latest_value(g, key, n),
+            server_log::time_at(g, n),
+        ),
         sends: Sends::Nothing,
     }
 }

@@ -10,8 +10,8 @@ use lib.Dec.{eqb, ltb, leb}
 use borrow.Author.Tests.{ltb-true, ltb-false, leb-true, leb-false, eqb-true, eqb-false, lt-ltb, le-leb, eq-eqb}
 use Rattle.base.proofs.Bools.{and_left, and_right, and_both, or_left, or_right, or_cases}
 use Rattle.base.proofs.Facts.{lt_or_le}
-use Rattle.log.specs.Entries.{last_term}
-use Rattle.log.specs.Logs.{live, length_of}
+use Rattle.server_log.specs.Entries.{last_term}
+use Rattle.server_log.specs.Logs.{live, length_of}
 use Rattle.cluster.specs.declared.Server.{Server}
 use Rattle.cluster.specs.declared.Cluster.{Cluster}
 use Rattle.cluster.specs.Servers.{server_at}

@@ -12,14 +12,14 @@ use lib.Seq.{get_or-set_same, get_or-set_other}
 use borrow.Author.Tests.{ltb-true}
 use Rattle.base.proofs.Bools.{not_both}
 use Rattle.base.proofs.Joined.{length_joined}
-use Rattle.log.specs.declared.Entry.{Entry}
-use Rattle.log.specs.declared.Log.{Log}
-use Rattle.log.specs.declared.rows.Latest.{Latest}
-use Rattle.log.specs.Entries.{last_term}
-use Rattle.log.specs.Logs.{live, length_of, joined}
-use Rattle.log.proofs.Common.{rolled_is}
-use Rattle.log.proofs.Positions.{last_joined}
-use Rattle.log.proofs.Tidy.{tidy_length, live_joined}
+use Rattle.server_log.specs.declared.Entry.{Entry}
+use Rattle.server_log.specs.declared.Log.{Log}
+use Rattle.server_log.specs.declared.rows.Latest.{Latest}
+use Rattle.server_log.specs.Entries.{last_term}
+use Rattle.server_log.specs.Logs.{live, length_of, joined}
+use Rattle.server_log.proofs.Common.{rolled_is}
+use Rattle.server_log.proofs.Positions.{last_joined}
+use Rattle.server_log.proofs.Tidy.{tidy_length, live_joined}
 use Rattle.mail.specs.declared.Report.{Report}
 use Rattle.mail.specs.declared.Queue.{Queue}
 use Rattle.mail.specs.Reports.{zero_note, zero_report}

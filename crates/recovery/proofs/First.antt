@@ -13,7 +13,7 @@ use Rattle.base.proofs.Every.{every_at}
 use Rattle.clock.specs.declared.Time.{Time}
 use Rattle.clock.specs.Times.{limit}
 use Rattle.clock.proofs.Order.{later_either}
-use Rattle.log.specs.Logs.{has_room}
+use Rattle.server_log.specs.Logs.{has_room}
 use Rattle.cluster.specs.declared.Server.{Server}
 use Rattle.cluster.specs.declared.Cluster.{Cluster}
 use Rattle.cluster.specs.Servers.{server_count, server_at, with_server}

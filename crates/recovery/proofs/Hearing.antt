@@ -12,10 +12,10 @@ use borrow.Author.Tests.{lt-ltb, le-leb, eq-eqb, ne_eqb, ltb-false}
 use Rattle.base.proofs.Bools.{and_both, or_left, or_right}
 use Rattle.base.proofs.Counting.{count_mono}
 use Rattle.base.proofs.Highest.{highest_here}
-use Rattle.log.specs.declared.Entry.{Entry}
-use Rattle.log.specs.Entries.{last_term, equal_at}
-use Rattle.log.specs.Logs.{live, length_of}
-use Rattle.log.proofs.Tidy.{tidy_length}
+use Rattle.server_log.specs.declared.Entry.{Entry}
+use Rattle.server_log.specs.Entries.{last_term, equal_at}
+use Rattle.server_log.specs.Logs.{live, length_of}
+use Rattle.server_log.proofs.Tidy.{tidy_length}
 use Rattle.mail.specs.declared.Note.{Note}
 use Rattle.mail.specs.Mails.{note_at}
 use Rattle.cluster.specs.declared.Server.{Server}

@@ -6,8 +6,8 @@ use mathlib.Core.List.{List}
 use Prim.Native.Nat.{ℕ, suc, ◌≤◌, ◌<◌}
 use lib.ListN.{length}
 use Rattle.clock.specs.Times.{limit}
-use Rattle.log.specs.declared.Entry.{Entry}
-use Rattle.log.specs.Entries.{last_term}
+use Rattle.server_log.specs.declared.Entry.{Entry}
+use Rattle.server_log.specs.Entries.{last_term}
 use Rattle.mail.specs.declared.Report.{Report}
 use Rattle.mail.specs.declared.Note.{Note}
 use Rattle.cluster.specs.declared.Cluster.{Cluster}

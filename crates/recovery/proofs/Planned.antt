@@ -6,9 +6,9 @@ use Prim.Native.Nat.{ℕ, suc, ◌≤◌}
 use native.Mathlib.Omega.{arith}
 use lib.ListN.{length}
 use Rattle.clock.specs.Times.{limit, zero_time}
-use Rattle.log.specs.declared.Entry.{Entry}
-use Rattle.log.specs.Entries.{entry_at}
-use Rattle.log.specs.Order.{highest_key}
+use Rattle.server_log.specs.declared.Entry.{Entry}
+use Rattle.server_log.specs.Entries.{entry_at}
+use Rattle.server_log.specs.Order.{highest_key}
 use Rattle.cluster.specs.declared.Cluster.{Cluster}
 use Rattle.cluster.specs.Servers.{server_count}
 use Rattle.cluster.specs.Sets.{votes}

@@ -11,11 +11,11 @@ use lib.Seq.{take-length}
 use borrow.Author.Tests.{lt-ltb, le-leb, eq-eqb, ne_eqb}
 use Rattle.base.proofs.Bools.{and_both, or_left, or_right, not_both}
 use Rattle.base.proofs.Facts.{lt_or_le}
-use Rattle.log.specs.declared.Entry.{Entry}
-use Rattle.log.specs.Entries.{entry_at, same_entry, last_term, equal_at, is_beginning}
-use Rattle.log.specs.Logs.{length_of}
-use Rattle.log.proofs.Common.{Beginning, beginning, beginning_at, is_beginning}
-use Rattle.log.proofs.Equal.{same_entry_refl}
+use Rattle.server_log.specs.declared.Entry.{Entry}
+use Rattle.server_log.specs.Entries.{entry_at, same_entry, last_term, equal_at, is_beginning}
+use Rattle.server_log.specs.Logs.{length_of}
+use Rattle.server_log.proofs.Common.{Beginning, beginning, beginning_at, is_beginning}
+use Rattle.server_log.proofs.Equal.{same_entry_refl}
 use Rattle.cluster.specs.declared.Server.{Server}
 use Rattle.cluster.specs.declared.Cluster.{Cluster}
 use Rattle.cluster.specs.Servers.{server_at}

@@ -13,14 +13,14 @@ use borrow.Author.Tests.{le-leb}
 use Rattle.base.specs.Numbers.{byte}
 use Rattle.base.proofs.Bools.{and_both, not_both}
 use Rattle.clock.specs.Times.{limit}
-use Rattle.log.specs.declared.Entry.{Entry}
-use Rattle.log.specs.declared.Log.{Log}
-use Rattle.log.specs.Entries.{entry_at, equal_at}
-use Rattle.log.specs.Logs.{live, length_of}
-use Rattle.log.specs.Order.{highest_key}
-use Rattle.log.specs.Ranges.{FitsLog}
-use Rattle.log.proofs.Equal.{same_entry_refl}
-use Rattle.log.proofs.Positions.{same_first}
+use Rattle.server_log.specs.declared.Entry.{Entry}
+use Rattle.server_log.specs.declared.Log.{Log}
+use Rattle.server_log.specs.Entries.{entry_at, equal_at}
+use Rattle.server_log.specs.Logs.{live, length_of}
+use Rattle.server_log.specs.Order.{highest_key}
+use Rattle.server_log.specs.Ranges.{FitsLog}
+use Rattle.server_log.proofs.Equal.{same_entry_refl}
+use Rattle.server_log.proofs.Positions.{same_first}
 use Rattle.cluster.specs.declared.Cluster.{Cluster}
 use Rattle.cluster.specs.Servers.{server_count, server_at}
 use Rattle.cluster.specs.WellFormed.{well_formed}

@@ -10,8 +10,8 @@ use lib.ListN.{length}
 use lib.Seq.{get_or-set_same, get_or-set_other}
 use borrow.Author.Tests.{lt-ltb, le-leb}
 use Rattle.base.proofs.Bools.{or_left}
-use Rattle.log.specs.declared.Entry.{Entry}
-use Rattle.log.specs.Logs.{live}
+use Rattle.server_log.specs.declared.Entry.{Entry}
+use Rattle.server_log.specs.Logs.{live}
 use Rattle.mail.specs.declared.Report.{Report}
 use Rattle.mail.specs.declared.Mail.{Mail}
 use Rattle.mail.specs.declared.Queue.{Queue}

@@ -15,14 +15,14 @@ use Rattle.clock.specs.declared.Time.{Time}
 use Rattle.clock.specs.declared.Ticked.TheVariants.{To}
 use Rattle.clock.specs.Times.{limit, zero_time, tick_of}
 use Rattle.clock.proofs.Order.{later_zero}
-use Rattle.log.specs.declared.Entry.{Entry}
-use Rattle.log.specs.Entries.{entry_at, last_term}
-use Rattle.log.specs.Logs.{live, has_room}
-use Rattle.log.specs.Order.{highest_key}
-use Rattle.log.proofs.Live.{entry_at_zero}
-use Rattle.log.proofs.Orderly.{Orderly}
-use Rattle.log.proofs.Positions.{length_more, last_more}
-use Rattle.log.proofs.Tidy.{Tidy, tidy_length, room_below, live_appended}
+use Rattle.server_log.specs.declared.Entry.{Entry}
+use Rattle.server_log.specs.Entries.{entry_at, last_term}
+use Rattle.server_log.specs.Logs.{live, has_room}
+use Rattle.server_log.specs.Order.{highest_key}
+use Rattle.server_log.proofs.Live.{entry_at_zero}
+use Rattle.server_log.proofs.Orderly.{Orderly}
+use Rattle.server_log.proofs.Positions.{length_more, last_more}
+use Rattle.server_log.proofs.Tidy.{Tidy, tidy_length, room_below, live_appended}
 use Rattle.mail.specs.Reports.{zero_note}
 use Rattle.mail.specs.Mails.{note_at}
 use Rattle.mail.proofs.Held.{emptied_note_at}

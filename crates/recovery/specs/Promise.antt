@@ -3,9 +3,9 @@
 -- Assumes nothing.
 use Rattle.std.specs.Prelude.{◌≡◌, ◌≢◌, ◌⊎◌, true, false, List, [], ◌∷◌, map, ℕ, ◌≤◌, ◌<◌, ◌*◌, length}
 use Rattle.clock.specs.Times.{limit}
-use Rattle.log.specs.declared.Entry.{Entry}
-use Rattle.log.specs.Logs.{live}
-use Rattle.log.specs.Order.{highest_key}
+use Rattle.server_log.specs.declared.Entry.{Entry}
+use Rattle.server_log.specs.Logs.{live}
+use Rattle.server_log.specs.Order.{highest_key}
 use Rattle.cluster.specs.declared.Cluster.{Cluster}
 use Rattle.cluster.specs.Ranges.{Fits}
 use Rattle.cluster.specs.Servers.{server_at}

@@ -2,6 +2,8 @@
 // names a case, and its saved text is all that follows up to the next such line, without its last line feed where it begins with =-.
 // Each is written with its answer line, a record that was loaded with whether it saves to that very text in the text's edition, and a refusal with whether the
 // record that was given is kept. `stdout` has what docs/SAVED.md gives, worked out by hand.
+#![tactic(auto)]
+
 use cluster::Cluster;
 use libc::{STDIN_FILENO, STDOUT_FILENO};
 use saved::Saved;
@@ -25,7 +27,7 @@ fn wrote_same(out: &[u8], n: usize, text: &[u8]) -> bool {
 fn edition_of(text: &[u8]) -> u8 {
     let mut b = [0u8; 2];
     if 4 <= text.len() {
-        hex::unhex(&text[0..4], &mut b);
+        hex_text::unhex(&text[0..4], &mut b);
     }
     b[1]
 }

@@ -10,8 +10,8 @@ use lib.ListN.{length, get_or, take, drop, length-take, length-drop}
 use lib.Seq.{take-suc, get_or-drop, get_or-take}
 use Rattle.base.proofs.Bools.{and_right}
 use Rattle.base.proofs.Every.{every_at}
-use Rattle.hex.specs.Digits.{digit_of, is_digit}
-use Rattle.hex.specs.Lines.{all_hex, bytes_of}
+use Rattle.hex_text.specs.Digits.{digit_of, is_digit}
+use Rattle.hex_text.specs.Lines.{all_hex, bytes_of}
 use Rattle.words.specs.Words.{framed}
 use Rattle.lines.proofs.Held.{empty_stands}
 use Rattle.cluster.specs.declared.Cluster.{Cluster}

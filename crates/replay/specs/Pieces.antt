@@ -4,7 +4,7 @@ use Rattle.std.specs.Prelude.{ℕ, suc, ◌+◌, ◌-◌, ◌*◌, true, false, 
 use Rattle.cluster.specs.declared.Cluster.{Cluster}
 use Rattle.frames.specs.Layout.{step_bytes}
 use Rattle.answers.specs.Answers.{answer_bytes}
-use Rattle.hex.specs.Lines.{chars}
+use Rattle.hex_text.specs.Lines.{chars}
 use Rattle.frames.specs.declared.ReadStep.{ReadStep}
 use Rattle.frames.specs.declared.ReadStep.TheVariants.{Step, NoFrame}
 use Rattle.frames.specs.Steps.{read_step}

@@ -1,4 +1,6 @@
 // Texts: one answer line for each line, in whatever pieces the text arrives.
+#![tactic(auto)]
+
 ghost use Rattle.std.specs.Prelude.{◌≡◌, ◌≤◌, ◌<◌, ◌+◌, length};
 ghost use Rattle.frames.specs.Steps.{read_step};
 ghost use Rattle.replay.specs.Texts.{respond, line_of};
@@ -16,20 +18,20 @@ use steps::{Answer, Outcome, Refusal, Step};
 pub const ANSWER_LINE: usize = answers::ANSWER_CHARS + 1;
 
 // The record, and the line that is being read.
-#[derive(Drop)]
+#[derive(Clone, Copy)]
 pub struct Session {
     pub cluster: Cluster,
     pub reader: Reader,
 }
 
-#[derive(Drop)]
+#[derive(Clone, Copy)]
 pub struct Fed {
     pub session: Session,
     pub taken: usize,
     pub wrote: usize,
 }
 
-#[derive(Drop)]
+#[derive(Clone, Copy)]
 pub struct Finished {
     pub session: Session,
     pub wrote: usize,
@@ -37,14 +39,14 @@ pub struct Finished {
 }
 
 // What a text has next: a line that reads so, or a character of one.
-#[derive(Drop)]
+#[derive(Clone, Copy)]
 pub enum Came {
     Line(ReadStep),
     Character,
 }
 
 // What came, how many bytes of the text it took, and the last of these, which the reader takes.
-#[derive(Drop)]
+#[derive(Clone, Copy)]
 pub struct Next {
     pub came: Came,
     pub took: usize,
@@ -52,7 +54,7 @@ pub struct Next {
 }
 
 // What a line is to do to the record: refuse, step one server that looks at another, or step the whole record.
-#[derive(Drop)]
+#[derive(Clone, Copy)]
 pub enum Plan {
     Refuse(Refusal),
     Server(usize, usize, Step),

@@ -5,6 +5,8 @@
 // a candidate outside its own set (19 to 22: refused, and then elected inside it),
 // a restart between pull and commit (23 to 35 of the server that pulled, 36 to 50 of the primary),
 // a log of 127 and of 128 at a write (51 to 188: lines 180 and 181 are the two writes).
+#![tactic(auto)]
+
 fn main() {
     shell::run();
 }

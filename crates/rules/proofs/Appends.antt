@@ -9,11 +9,11 @@ use Rattle.clock.specs.declared.Ticked.TheVariants.{To, AtLimit}
 use Rattle.clock.specs.Times.{is_before, tick_of}
 use Rattle.clock.proofs.Order.{then_before}
 use Rattle.clock.proofs.Ticks.{tick_after}
-use Rattle.log.specs.declared.Entry.{Entry}
-use Rattle.log.specs.Entries.{applied_time}
-use Rattle.log.specs.Logs.{live, has_room, appended}
-use Rattle.log.proofs.Positions.{last_more}
-use Rattle.log.proofs.Tidy.{Tidy, live_appended}
+use Rattle.server_log.specs.declared.Entry.{Entry}
+use Rattle.server_log.specs.Entries.{applied_time}
+use Rattle.server_log.specs.Logs.{live, has_room, appended}
+use Rattle.server_log.proofs.Positions.{last_more}
+use Rattle.server_log.proofs.Tidy.{Tidy, live_appended}
 use Rattle.cluster.specs.declared.Server.{Server}
 use Rattle.steps.specs.Reasons.{Clear}
 use Rattle.singles.specs.Appends.{ticks, tick_time, append_rules}

@@ -11,8 +11,8 @@ use Rattle.base.proofs.Every.{every_at}
 use Rattle.base.proofs.Greatest.{greatest_above, greatest_below}
 use Rattle.clock.specs.Times.{limit}
 use Rattle.clock.proofs.Order.{before_itself, later_left}
-use Rattle.log.specs.Logs.{length_of}
-use Rattle.log.specs.Order.{no_key}
+use Rattle.server_log.specs.Logs.{length_of}
+use Rattle.server_log.specs.Order.{no_key}
 use Rattle.mail.specs.declared.Report.{Report}
 use Rattle.mail.specs.Ranges.{FitsReport}
 use Rattle.mail.proofs.Good.{UsedReport}

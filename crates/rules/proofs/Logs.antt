@@ -11,14 +11,14 @@ use Rattle.base.specs.Lists.{joined_at}
 use Rattle.base.proofs.Facts.{lt_or_le}
 use Rattle.base.proofs.Joined.{length_joined}
 use Rattle.clock.specs.Times.{is_before}
-use Rattle.log.specs.declared.Entry.{Entry}
-use Rattle.log.specs.declared.Log.{Log}
-use Rattle.log.specs.Entries.{entry_at, last_term, applied_time}
-use Rattle.log.specs.Logs.{live, length_of, has_room, appended, joined}
-use Rattle.log.proofs.Live.{entry_at_zero}
-use Rattle.log.proofs.Orderly.{EntryGood, Orderly, LogGood}
-use Rattle.log.proofs.Positions.{length_more, entry_at_old, entry_at_new, entry_at_joined_low, entry_at_joined_high}
-use Rattle.log.proofs.Tidy.{live_appended, tidy_appended, live_joined, tidy_joined}
+use Rattle.server_log.specs.declared.Entry.{Entry}
+use Rattle.server_log.specs.declared.Log.{Log}
+use Rattle.server_log.specs.Entries.{entry_at, last_term, applied_time}
+use Rattle.server_log.specs.Logs.{live, length_of, has_room, appended, joined}
+use Rattle.server_log.proofs.Live.{entry_at_zero}
+use Rattle.server_log.proofs.Orderly.{EntryGood, Orderly, LogGood}
+use Rattle.server_log.proofs.Positions.{length_more, entry_at_old, entry_at_new, entry_at_joined_low, entry_at_joined_high}
+use Rattle.server_log.proofs.Tidy.{live_appended, tidy_appended, live_joined, tidy_joined}
 
 -- ---- a greater term
 

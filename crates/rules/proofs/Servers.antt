@@ -18,21 +18,21 @@ use Rattle.clock.specs.declared.Time.{Time}
 use Rattle.clock.specs.Times.{limit, is_before}
 use Rattle.clock.specs.Ranges.{FitsTime}
 use Rattle.clock.proofs.Order.{before_itself, not_after_trans, later_left, later_right}
-use Rattle.log.specs.declared.Entry.{Entry}
-use Rattle.log.specs.declared.Log.{Log}
-use Rattle.log.specs.declared.rows.Latest.{Latest}
-use Rattle.log.specs.declared.rows.Rows.{Rows}
+use Rattle.server_log.specs.declared.Entry.{Entry}
+use Rattle.server_log.specs.declared.Log.{Log}
+use Rattle.server_log.specs.declared.rows.Latest.{Latest}
+use Rattle.server_log.specs.declared.rows.Rows.{Rows}
 use Rattle.base.proofs.Facts.{lt_or_le}
-use Rattle.log.specs.Entries.{entry_at, last_term, applied_time, equal_at}
-use Rattle.log.proofs.Live.{entry_at_zero}
-use Rattle.log.specs.Logs.{live, length_of, appended}
-use Rattle.log.specs.Rows.{zero_row, latest_after, latest_over, between}
-use Rattle.log.specs.Ranges.{FitsEntry, FitsLog, FitsLatest, FitsRows}
-use Rattle.log.proofs.Common.{common_le, common_first, rolled_is}
-use Rattle.log.proofs.Equal.{equal_at}
-use Rattle.log.proofs.Orderly.{Writing, LogGood}
-use Rattle.log.proofs.Positions.{length_more, last_joined}
-use Rattle.log.proofs.Tidy.{tidy_highest, live_joined, long_joined}
+use Rattle.server_log.specs.Entries.{entry_at, last_term, applied_time, equal_at}
+use Rattle.server_log.proofs.Live.{entry_at_zero}
+use Rattle.server_log.specs.Logs.{live, length_of, appended}
+use Rattle.server_log.specs.Rows.{zero_row, latest_after, latest_over, between}
+use Rattle.server_log.specs.Ranges.{FitsEntry, FitsLog, FitsLatest, FitsRows}
+use Rattle.server_log.proofs.Common.{common_le, common_first, rolled_is}
+use Rattle.server_log.proofs.Equal.{equal_at}
+use Rattle.server_log.proofs.Orderly.{Writing, LogGood}
+use Rattle.server_log.proofs.Positions.{length_more, last_joined}
+use Rattle.server_log.proofs.Tidy.{tidy_highest, live_joined, long_joined}
 use Rattle.cluster.specs.declared.Head.{Head}
 use Rattle.cluster.specs.declared.Server.{Server}
 use Rattle.cluster.specs.Servers.{most_servers, with_primary, with_head, with_mail, with_rows, committed_to}
@@ -58,8 +58,8 @@ use Rattle.counts.specs.Advances.{committed_of}
 use Rattle.rules.proofs.Appends.{stamp_from, ticked, stamp_after, room, live_more, applied_more}
 use Rattle.rules.proofs.Others.{office_of, wall_of}
 use Rattle.rules.proofs.Logs.{log_raised, appended_good, joined_good}
-use Rattle.log.proofs.Ranges.{fits_entry, fits_appended, fits_joined, fit_live, fit_between, fits_zero_row, fits_after, fits_over}
-use Rattle.log.proofs.Rowed.{HasLatest, RowsGood, has_none, has_after, has_between, has_rest, has_over}
+use Rattle.server_log.proofs.Ranges.{fits_entry, fits_appended, fits_joined, fit_live, fit_between, fits_zero_row, fits_after, fits_over}
+use Rattle.server_log.proofs.Rowed.{HasLatest, RowsGood, has_none, has_after, has_between, has_rest, has_over}
 use Rattle.rules.proofs.Ranges.{fits_later, fits_tick}
 
 -- ---- rows

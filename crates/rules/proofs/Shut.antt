@@ -10,10 +10,10 @@ use Rattle.base.specs.Numbers.{every, count, highest}
 use Rattle.base.specs.Lists.{each_from}
 use Rattle.clock.specs.declared.Time.{Time}
 use Rattle.clock.specs.Times.{zero_time, is_before, same_time, later_of, tick_of}
-use Rattle.log.specs.Entries.{same_entry, entry_at, latest_value}
-use Rattle.log.specs.Logs.{has_room, appended}
-use Rattle.log.specs.Order.{entry_ok, follows, place_ok, in_order, rest_zero, is_empty_log, log_ok}
-use Rattle.log.specs.Rows.{latest_after, row_ok, rows_ok}
+use Rattle.server_log.specs.Entries.{same_entry, entry_at, latest_value}
+use Rattle.server_log.specs.Logs.{has_room, appended}
+use Rattle.server_log.specs.Order.{entry_ok, follows, place_ok, in_order, rest_zero, is_empty_log, log_ok}
+use Rattle.server_log.specs.Rows.{latest_after, row_ok, rows_ok}
 use Rattle.cluster.specs.declared.Cluster.{Cluster}
 use Rattle.cluster.specs.Servers.{fresh_cluster, started_of, server_at, voted_of}
 use Rattle.cluster.specs.Sets.{member, is_within, is_apart}

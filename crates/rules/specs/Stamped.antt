@@ -2,8 +2,8 @@
 use Rattle.std.specs.Prelude.{◌≡◌, true, ℕ}
 use Rattle.clock.specs.declared.Time.{Time}
 use Rattle.clock.specs.Times.{is_before}
-use Rattle.log.specs.Entries.{applied_time}
-use Rattle.log.specs.Logs.{live}
+use Rattle.server_log.specs.Entries.{applied_time}
+use Rattle.server_log.specs.Logs.{live}
 use Rattle.cluster.specs.declared.Cluster.{Cluster}
 use Rattle.cluster.specs.Servers.{server_at}
 

@@ -1,4 +1,6 @@
 // The step: a record and a step in, the next record and an answer out, for every record and every step.
+#![tactic(auto)]
+
 ghost use Rattle.std.specs.Prelude.{◌≡◌};
 ghost use Rattle.rules.specs.Rules.{delivered, put_back, is_start, core_of, step_of};
 ghost use Rattle.rules.specs.One.{untouched_of, one_of, single_of, pair_of};

@@ -10,8 +10,8 @@ use borrow.Author.Tests.{ltb-true, leb-true, eqb-true, not-true}
 use Rattle.base.proofs.Bools.{and_left, and_right, or_cases, not_both}
 use Rattle.base.proofs.Every.{every_at}
 use Rattle.base.proofs.Highest.{highest_passes}
-use Rattle.log.specs.Entries.{entry_at, last_term}
-use Rattle.log.specs.Logs.{live, length_of}
+use Rattle.server_log.specs.Entries.{entry_at, last_term}
+use Rattle.server_log.specs.Logs.{live, length_of}
 use Rattle.mail.specs.declared.Note.{Note}
 use Rattle.mail.specs.Mails.{note_at}
 use Rattle.cluster.specs.declared.Server.{Server}

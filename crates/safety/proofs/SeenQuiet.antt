@@ -8,7 +8,7 @@ use lib.Dec.{ltb}
 use borrow.Author.Tests.{ltb-true, ltb-false, not-true}
 use Rattle.base.proofs.Bools.{and_left, and_right, not_both}
 use Rattle.clock.specs.declared.Time.{Time}
-use Rattle.log.proofs.Equal.{equal_at}
+use Rattle.server_log.proofs.Equal.{equal_at}
 use Rattle.cluster.specs.declared.Server.{Server}
 use Rattle.cluster.specs.declared.Cluster.{Cluster}
 use Rattle.cluster.specs.Ranges.{Fits}

@@ -10,15 +10,15 @@ use lib.ListN.{length}
 use borrow.Author.Tests.{ltb-true, leb-false, eqb-true, not-true}
 use Rattle.base.proofs.Bools.{or_cases}
 use Rattle.base.proofs.Joined.{length_joined}
-use Rattle.log.specs.declared.Log.{Log}
-use Rattle.log.specs.declared.rows.Latest.{Latest}
-use Rattle.log.specs.Entries.{entry_at, last_term, equal_at}
-use Rattle.log.specs.Logs.{live, length_of, joined}
-use Rattle.log.proofs.Common.{rolled_is}
-use Rattle.log.proofs.Equal.{equal_at}
-use Rattle.log.proofs.Live.{entry_at_zero}
-use Rattle.log.proofs.Positions.{entry_at_joined_low, entry_at_joined_high}
-use Rattle.log.proofs.Tidy.{Tidy, live_joined}
+use Rattle.server_log.specs.declared.Log.{Log}
+use Rattle.server_log.specs.declared.rows.Latest.{Latest}
+use Rattle.server_log.specs.Entries.{entry_at, last_term, equal_at}
+use Rattle.server_log.specs.Logs.{live, length_of, joined}
+use Rattle.server_log.proofs.Common.{rolled_is}
+use Rattle.server_log.proofs.Equal.{equal_at}
+use Rattle.server_log.proofs.Live.{entry_at_zero}
+use Rattle.server_log.proofs.Positions.{entry_at_joined_low, entry_at_joined_high}
+use Rattle.server_log.proofs.Tidy.{Tidy, live_joined}
 use Rattle.cluster.specs.declared.Server.{Server}
 use Rattle.cluster.specs.declared.Cluster.{Cluster}
 use Rattle.cluster.specs.Ranges.{Fits}

@@ -14,14 +14,14 @@ use Rattle.base.specs.Lists.{each}
 use Rattle.base.proofs.Each.{length_each_from}
 use Rattle.base.proofs.Facts.{lt_or_le}
 use Rattle.clock.specs.Ranges.{FitsTime}
-use Rattle.log.specs.declared.Entry.{Entry}
-use Rattle.log.specs.declared.Log.{Log}
-use Rattle.log.specs.Entries.{entry_at, common_beginning, is_beginning}
-use Rattle.log.specs.Logs.{live, length_of}
-use Rattle.log.specs.Ranges.{FitsLog}
-use Rattle.log.proofs.Common.{common_longest, first_beginning}
-use Rattle.log.proofs.Positions.{same_first}
-use Rattle.log.proofs.Ranges.{fits_entry}
+use Rattle.server_log.specs.declared.Entry.{Entry}
+use Rattle.server_log.specs.declared.Log.{Log}
+use Rattle.server_log.specs.Entries.{entry_at, common_beginning, is_beginning}
+use Rattle.server_log.specs.Logs.{live, length_of}
+use Rattle.server_log.specs.Ranges.{FitsLog}
+use Rattle.server_log.proofs.Common.{common_longest, first_beginning}
+use Rattle.server_log.proofs.Positions.{same_first}
+use Rattle.server_log.proofs.Ranges.{fits_entry}
 use Rattle.cluster.specs.declared.Server.{Server}
 use Rattle.cluster.specs.declared.Cluster.{Cluster}
 use Rattle.cluster.specs.Ranges.{Fits}

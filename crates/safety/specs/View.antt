@@ -1,9 +1,9 @@
 -- The view of a record: what the safety theory sees of each server, and of what was told.
 -- Assumes nothing.
 use Rattle.std.specs.Prelude.{ℕ}
-use Rattle.log.specs.declared.Entry.{Entry}
-use Rattle.log.specs.Entries.{entry_at}
-use Rattle.log.specs.Logs.{live, length_of}
+use Rattle.server_log.specs.declared.Entry.{Entry}
+use Rattle.server_log.specs.Entries.{entry_at}
+use Rattle.server_log.specs.Logs.{live, length_of}
 use Rattle.mail.specs.declared.Report.{Report}
 use Rattle.mail.specs.declared.Note.{Note}
 use Rattle.mail.specs.Queues.{report_at}

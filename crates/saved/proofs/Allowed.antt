@@ -9,9 +9,9 @@ use lib.Dec.{eqb, ltb, leb}
 use lib.ListN.{length, length-take}
 use Rattle.base.proofs.Bools.{and_both, and_left, and_right}
 use Rattle.base.proofs.Every.{every_at, every_all}
-use Rattle.log.specs.Logs.{log_limit, highest_position, kept}
-use Rattle.log.specs.Order.{is_empty_log, log_ok}
-use Rattle.log.specs.Rows.{rows_ok}
+use Rattle.server_log.specs.Logs.{log_limit, highest_position, kept}
+use Rattle.server_log.specs.Order.{is_empty_log, log_ok}
+use Rattle.server_log.specs.Rows.{rows_ok}
 use Rattle.mail.specs.declared.Report.{Report}
 use Rattle.mail.specs.declared.Note.{Note}
 use Rattle.mail.specs.declared.Mail.{Mail}

@@ -7,7 +7,7 @@ use lib.ListN.{length, take, length-append}
 use lib.Seq.{get_or-append_seam, get_or-append-add}
 use Rattle.base.specs.Numbers.{byte}
 use Rattle.clock.specs.Times.{limit}
-use Rattle.hex.proofs.Trips.{Bytes}
+use Rattle.hex_text.proofs.Trips.{Bytes}
 use Rattle.words.specs.Words.{high_of, low_of, word_of, byte_at, word_at}
 use Rattle.words.proofs.Bytes.{high_below, low_below, word_below, word_parts}
 use Rattle.saved.specs.Layout.{Width, one, two, field_bytes, said_from, size_by}

@@ -12,12 +12,12 @@ use Rattle.base.specs.Numbers.{byte}
 use Rattle.base.proofs.Bools.{and_left, and_right}
 use Rattle.base.proofs.Every.{every_at}
 use Rattle.clock.specs.Times.{is_before}
-use Rattle.hex.specs.Lines.{chars, bytes_of}
-use Rattle.hex.proofs.Trips.{Bytes}
-use Rattle.log.specs.Entries.{zero_entry, applied_time}
-use Rattle.log.specs.Logs.{log_limit, kept, live, length_of}
-use Rattle.log.specs.Rows.{rows_ok}
-use Rattle.log.specs.Order.{log_ok}
+use Rattle.hex_text.specs.Lines.{chars, bytes_of}
+use Rattle.hex_text.proofs.Trips.{Bytes}
+use Rattle.server_log.specs.Entries.{zero_entry, applied_time}
+use Rattle.server_log.specs.Logs.{log_limit, kept, live, length_of}
+use Rattle.server_log.specs.Rows.{rows_ok}
+use Rattle.server_log.specs.Order.{log_ok}
 use Rattle.mail.specs.declared.Note.{Note}
 use Rattle.mail.specs.Reports.{zero_report, zero_note}
 use Rattle.mail.specs.Queues.{queue_limit}

@@ -14,8 +14,8 @@ use Rattle.base.proofs.Bools.{or_no, not_both}
 use Rattle.base.proofs.Cases.{◌▸◌}
 use Rattle.base.proofs.Counting.{count_le}
 use Rattle.words.specs.Words.{byte_at}
-use Rattle.log.specs.declared.Entry.{Entry}
-use Rattle.log.specs.Ranges.{FitsEntry}
+use Rattle.server_log.specs.declared.Entry.{Entry}
+use Rattle.server_log.specs.Ranges.{FitsEntry}
 use Rattle.mail.specs.declared.Note.{Note}
 use Rattle.mail.specs.Mails.{note_slots, note_at}
 use Rattle.mail.specs.Order.{is_unused}

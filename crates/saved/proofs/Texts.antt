@@ -8,10 +8,10 @@ use borrow.Author.Tests.{ne_eqb}
 use lib.Dec.{eqb, ltb}
 use lib.ListN.{length, get_or, length-append}
 use lib.Seq.{get_or-append_seam, get_or-append-add}
-use Rattle.hex.specs.Digits.{radix, ten, char0, char_a, char_of}
-use Rattle.hex.specs.Lines.{chars, bytes_of, hex_of}
-use Rattle.hex.proofs.Places.{hex_length}
-use Rattle.hex.proofs.Trips.{Bytes, bytes_hex}
+use Rattle.hex_text.specs.Digits.{radix, ten, char0, char_a, char_of}
+use Rattle.hex_text.specs.Lines.{chars, bytes_of, hex_of}
+use Rattle.hex_text.proofs.Places.{hex_length}
+use Rattle.hex_text.proofs.Trips.{Bytes, bytes_hex}
 use Rattle.lines.specs.Texts.{line_feed, lines}
 use Rattle.lines.proofs.Lines.{Plain, none, more, line_first}
 use Rattle.saved.specs.Saved.{text_of}

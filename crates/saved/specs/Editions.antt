@@ -1,7 +1,7 @@
 -- The editions of the saved form, as data: an edition's number, what its records may hold, and the fields of its frames. Assumes nothing.
 use Rattle.std.specs.Prelude.{Bool, false, cond, ◌&&◌, ◌||◌, List, [], ◌∷◌, ℕ, eqb, ltb, leb, length}
 use Rattle.base.specs.Numbers.{every}
-use Rattle.log.specs.Logs.{log_limit, highest_position, kept}
+use Rattle.server_log.specs.Logs.{log_limit, highest_position, kept}
 use Rattle.mail.specs.declared.Queue.{Queue}
 use Rattle.mail.specs.declared.Mail.{Mail}
 use Rattle.mail.specs.Queues.{queue_limit, report_at}

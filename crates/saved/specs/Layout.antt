@@ -3,7 +3,7 @@
 use Rattle.std.specs.Prelude.{cond, not, List, [], ◌∷◌, ℕ, suc, ◌+◌}
 use Rattle.base.specs.Numbers.{count}
 use Rattle.words.specs.Words.{high_of, low_of, byte_at, word_at}
-use Rattle.log.specs.declared.Entry.{Entry}
+use Rattle.server_log.specs.declared.Entry.{Entry}
 use Rattle.mail.specs.declared.Report.{Report}
 use Rattle.mail.specs.declared.Note.{Note}
 use Rattle.mail.specs.declared.Mail.{Mail}

@@ -1,7 +1,7 @@
 -- The saved form of a record: its frames in order, a line each. Assumes nothing.
 use Rattle.std.specs.Prelude.{cond, List, [], ◌∷◌, ◌++◌, map, ℕ, suc, take}
-use Rattle.hex.specs.Lines.{hex_of}
-use Rattle.log.specs.Logs.{kept}
+use Rattle.hex_text.specs.Lines.{hex_of}
+use Rattle.server_log.specs.Logs.{kept}
 use Rattle.mail.specs.declared.Report.{Report}
 use Rattle.mail.specs.declared.Note.{Note}
 use Rattle.mail.specs.declared.Queue.{Queue}

@@ -1,7 +1,7 @@
 -- Which texts have the shape of a saved form, whatever they say: each frame is of the sort, and so of the length, that the frames before it
 -- announce. Assumes nothing.
 use Rattle.std.specs.Prelude.{Bool, true, false, ◌&&◌, List, [], ◌∷◌, ◌++◌, ℕ, ◌-◌, eqb, length, get_or, replicate}
-use Rattle.hex.specs.Lines.{bytes_of}
+use Rattle.hex_text.specs.Lines.{bytes_of}
 use Rattle.words.specs.Words.{byte_at, framed}
 use Rattle.lines.specs.Texts.{line_feed, lines}
 use Rattle.saved.specs.declared.Sort.{Sort}

@@ -1,7 +1,7 @@
 -- How a saved form is written into a buffer: frames by value, and what `save` gives and leaves. Assumes nothing.
 use Rattle.std.specs.Prelude.{cond, ◌&&◌, List, ℕ, ◌+◌, ◌*◌, ◌≤◌, ◌≡◌, ltb, length}
-use Rattle.hex.specs.Lines.{chars}
-use Rattle.log.specs.Logs.{log_limit}
+use Rattle.hex_text.specs.Lines.{chars}
+use Rattle.server_log.specs.Logs.{log_limit}
 use Rattle.mail.specs.Queues.{queue_limit}
 use Rattle.mail.specs.Mails.{note_slots}
 use Rattle.cluster.specs.declared.Server.{Server}

@@ -1,7 +1,9 @@
 // The saved form of a record: lines of hexadecimal, a frame each, written into a buffer.
+#![tactic(auto)]
+
 ghost use Rattle.std.specs.Prelude.{◌≡◌, true, ◌∷◌, [], map, ◌≤◌, ◌<◌, ◌+◌, ◌*◌, length, take};
 ghost use Rattle.base.specs.Numbers.{byte};
-ghost use Rattle.log.specs.Logs.{log_limit, kept};
+ghost use Rattle.server_log.specs.Logs.{log_limit, kept};
 ghost use Rattle.mail.specs.Queues.{queue_limit};
 ghost use Rattle.cluster.specs.Servers.{most_servers};
 ghost use Rattle.cluster.specs.WellFormed.{well_formed};
@@ -13,8 +15,8 @@ ghost use Rattle.saved.specs.declared.Sort.TheVariants as S;
 
 use cluster::{Cluster, Server};
 use lines::LINE_FEED;
-use log::{Entry, Log};
 use mail::{Mail, Note, Queue, Report};
+use server_log::{Entry, Log};
 use steps::Refusal;
 use words::{high, low};
 
@@ -37,16 +39,16 @@ pub const ENTRY_BYTES: usize = 10;
 
 pub const TOLD_BYTES: usize = 8;
 
-const FIRST_LINE: usize = hex::CHARS * FIRST_BYTES + 1;
+const FIRST_LINE: usize = hex_text::CHARS * FIRST_BYTES + 1;
 
-const SERVER_LINE: usize = hex::CHARS * SERVER_BYTES + 1;
+const SERVER_LINE: usize = hex_text::CHARS * SERVER_BYTES + 1;
 
-const ENTRY_LINE: usize = hex::CHARS * ENTRY_BYTES + 1;
+const ENTRY_LINE: usize = hex_text::CHARS * ENTRY_BYTES + 1;
 
-const TOLD_LINE: usize = hex::CHARS * TOLD_BYTES + 1;
+const TOLD_LINE: usize = hex_text::CHARS * TOLD_BYTES + 1;
 
 const LONGEST_SERVER: usize = SERVER_LINE
-    + log::LOG_LIMIT * ENTRY_LINE
+    + server_log::LOG_LIMIT * ENTRY_LINE
     + (mail::NOTE_SLOTS + mail::QUEUE_LIMIT) * TOLD_LINE;
 
 // The longest saved form: seven servers, each with all that it can hold.
@@ -64,7 +66,7 @@ pub const NOTE: u8 = 3;
 pub const REPORT: u8 = 4;
 
 // The sorts of frames.
-#[derive(Drop)]
+#[derive(Clone, Copy)]
 pub enum Sort {
     First,
     Server,
@@ -74,7 +76,7 @@ pub enum Sort {
 }
 
 // What the records of an edition may hold: entries in a log, lengths in notes and reports, and whether followers.
-#[derive(Drop)]
+#[derive(Clone, Copy)]
 pub struct Limits {
     pub entries: usize,
     pub positions: usize,
@@ -82,7 +84,7 @@ pub struct Limits {
 }
 
 // What a saving gives: a text of so many bytes, or why there is none.
-#[derive(Drop)]
+#[derive(Clone, Copy)]
 pub enum Saved {
     Text(usize),
     NoRoom,
@@ -126,8 +128,8 @@ pub fn limits_of(edition: u8) -> Limits
         };
     }
     Limits {
-        entries: log::LOG_LIMIT,
-        positions: log::HIGHEST_POSITION,
+        entries: server_log::LOG_LIMIT,
+        positions: server_log::HIGHEST_POSITION,
         followers: edition != EDITION_2,
     }
 }
@@ -180,7 +182,7 @@ fn allows_server(edition: u8, s: Server) -> bool
     let g = s.log;
     let m = s.mail;
     let q = m.queue;
-    if most.entries < log::length_of(g) {
+    if most.entries < server_log::length_of(g) {
         return false;
     }
     if !notes_within(m, most.positions) {
@@ -333,8 +335,8 @@ fn put_line(out: &mut [u8], at: usize, frame: &[u8]) -> usize
     requires { at + length (text_of (frame.now ∷ [])) ≤ length out.old }
     ensures { Written out.old at out.new result (frame.now ∷ []) }
 {
-    let end = at + hex::CHARS * frame.len();
-    hex::enhex(frame, &mut out[at..end]);
+    let end = at + hex_text::CHARS * frame.len();
+    hex_text::enhex(frame, &mut out[at..end]);
     out[end] = LINE_FEED;
     end + 1
 }

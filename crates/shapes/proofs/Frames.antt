@@ -10,8 +10,8 @@ use lib.ListN.{length, get_or, replicate, length-replicate, get_or-eq_default}
 use Rattle.base.proofs.Cases.{◌▸◌}
 use Rattle.base.proofs.Facts.{lt_or_le}
 use Rattle.base.proofs.Joined.{joined_low, joined_high}
-use Rattle.hex.specs.Lines.{chars, bytes_of, over}
-use Rattle.hex.proofs.Places.{bytes_length}
+use Rattle.hex_text.specs.Lines.{chars, bytes_of, over}
+use Rattle.hex_text.proofs.Places.{bytes_length}
 use Rattle.words.specs.Words.{byte_at}
 use Rattle.saved.specs.declared.Sort.{Sort}
 use Rattle.saved.specs.declared.Sort.TheVariants as S

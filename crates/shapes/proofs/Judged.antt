@@ -5,7 +5,7 @@ use mathlib.Core.List.{List}
 use Prim.Native.Nat.{ℕ, ◌≤◌, ◌<◌}
 use native.Mathlib.Omega.{arith}
 use lib.ListN.{take, replicate, length-take}
-use Rattle.hex.specs.Lines.{bytes_of, over}
+use Rattle.hex_text.specs.Lines.{bytes_of, over}
 use Rattle.lines.specs.Held.{nothing_read}
 use Rattle.lines.proofs.Held.{held_over, held_past, held_within}
 use Rattle.saved.specs.declared.Sort.{Sort}

@@ -10,7 +10,7 @@ use borrow.Author.Tests.{eqb-true, eqb-false, ne_eqb}
 use lib.Dec.{eqb}
 use lib.ListN.{length, get_or}
 use Rattle.base.proofs.Bools.{and_right, not_both}
-use Rattle.hex.specs.Lines.{bytes_of}
+use Rattle.hex_text.specs.Lines.{bytes_of}
 use Rattle.words.specs.Words.{byte_at}
 use Rattle.lines.specs.Held.{nothing_held}
 use Rattle.lines.specs.Texts.{line_feed, lines}

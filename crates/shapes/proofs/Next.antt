@@ -9,8 +9,8 @@ use lib.ListN.{length}
 use Rattle.base.proofs.Bools.{and_no, and_left, and_right}
 use Rattle.base.proofs.Cases.{◌▸◌}
 use Rattle.base.proofs.Facts.{lt_or_le}
-use Rattle.hex.specs.Lines.{bytes_of}
-use Rattle.hex.proofs.Places.{hex_length}
+use Rattle.hex_text.specs.Lines.{bytes_of}
+use Rattle.hex_text.proofs.Places.{hex_length}
 use Rattle.words.proofs.Framed.{is_frame, framed_other}
 use Rattle.lines.proofs.Held as Held
 use Rattle.lines.proofs.Held.{held_is, held_framed}

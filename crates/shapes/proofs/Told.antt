@@ -10,7 +10,7 @@ use lib.Dec.{eqb}
 use lib.ListN.{length, get_or, drop}
 use lib.Seq.{drop-cons}
 use Rattle.base.proofs.Bools.{and_no, not_both}
-use Rattle.hex.specs.Lines.{bytes_of}
+use Rattle.hex_text.specs.Lines.{bytes_of}
 use Rattle.words.specs.Words.{byte_at}
 use Rattle.lines.proofs.Held.{empty_stands, held_empty, held_some, push_holds}
 use Rattle.lines.specs.Texts.{line_feed, lines}

@@ -1,7 +1,7 @@
 -- A text byte by byte, for a reader that knows some editions: how many frames are still announced, and the line that is being read. Nobody has to
 -- believe this: by `told` it comes to `shaped_for`. Assumes nothing.
 use Rattle.std.specs.Prelude.{◌≡◌, Bool, true, false, cond, not, ◌&&◌, List, [], ◌∷◌, ◌++◌, ℕ, ◌-◌, ◌*◌, eqb, ltb, replicate}
-use Rattle.hex.specs.Lines.{chars, bytes_of}
+use Rattle.hex_text.specs.Lines.{chars, bytes_of}
 use Rattle.words.specs.Words.{byte_at}
 use Rattle.lines.specs.Held.{held_line, nothing_held, nothing_read, pushed}
 use Rattle.lines.specs.Texts.{line_feed, one_more}

@@ -1,6 +1,8 @@
 // Whether a text has the shape of a saved form, told byte by byte with a few counters and one line, so in fixed memory.
+#![tactic(auto)]
+
 ghost use Rattle.std.specs.Prelude.{◌≡◌, ◌&&◌, ◌-◌, eqb, replicate};
-ghost use Rattle.hex.specs.Lines.{bytes_of, over};
+ghost use Rattle.hex_text.specs.Lines.{bytes_of, over};
 ghost use Rattle.words.specs.Words.{byte_at};
 ghost use Rattle.saved.specs.Layout.{sort_number, size_of};
 ghost use Rattle.saved.specs.Editions.{widths1, editions, is_known, edition_numbered};
@@ -12,10 +14,10 @@ use saved::Sort;
 use words::word;
 
 // The characters of the longest frame.
-pub const MOST_CHARS: usize = hex::CHARS * saved::SERVER_BYTES;
+pub const MOST_CHARS: usize = hex_text::CHARS * saved::SERVER_BYTES;
 
 // The frames that are still announced, and whether the first frame, which names the edition and announces the servers, was read.
-#[derive(Drop)]
+#[derive(Clone, Copy)]
 pub struct Left {
     pub begun: bool,
     pub edition: u8,
@@ -27,7 +29,7 @@ pub struct Left {
 
 // The line that is being read, as wide as the longest frame: its characters, how many there are, and whether it is too long; then nothing else
 // is kept.
-#[derive(Drop)]
+#[derive(Clone, Copy)]
 pub struct FrameReader {
     pub held: [u8; MOST_CHARS],
     pub fill: usize,
@@ -35,7 +37,7 @@ pub struct FrameReader {
 }
 
 // How far the shape of a text is told: the frames that are left, the line that is being read, its number, and whether the shape is broken there.
-#[derive(Drop)]
+#[derive(Clone, Copy)]
 pub struct Shape {
     pub left: Left,
     pub reader: FrameReader,
@@ -44,7 +46,7 @@ pub struct Shape {
 }
 
 // What is due next: a frame of a sort, or the end of the text.
-#[derive(Drop)]
+#[derive(Clone, Copy)]
 pub enum Due {
     Frame(Sort),
     End,
@@ -81,7 +83,7 @@ fn bytes_in(line: &[u8]) -> [u8; saved::SERVER_BYTES]
     ensures { result ≡ over (bytes_of line.now) (replicate most_bytes 0) }
 {
     let mut b: [u8; saved::SERVER_BYTES] = [0; saved::SERVER_BYTES];
-    hex::unhex(line, &mut b);
+    hex_text::unhex(line, &mut b);
     b
 }
 
@@ -101,10 +103,10 @@ fn is_next(k: Sort, edition: u8, line: &[u8]) -> bool
 {
     let b = bytes_in(line);
     let own = edition_for(k, edition, b);
-    if line.len() != hex::CHARS * size_of(own, k) {
+    if line.len() != hex_text::CHARS * size_of(own, k) {
         return false;
     }
-    if !hex::all_hex(line) {
+    if !hex_text::all_hex(line) {
         return false;
     }
     says(k, own, b)

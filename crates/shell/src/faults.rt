@@ -4,12 +4,12 @@ use clock::Time;
 use cluster::Head;
 use lines::LINE_FEED;
 use loads::{BYTES, PRIMARY};
-use log::Entry;
 use mail::Report;
 use saved::{ENTRY, FIRST, Limits, NOTE, SERVER};
+use server_log::Entry;
 
 // What a server frame says that no server's does, in the order of its fields.
-#[derive(Drop)]
+#[derive(Clone, Copy)]
 pub(crate) enum OfServer {
     Nothing,
     Entries(usize),
@@ -25,7 +25,7 @@ pub(crate) enum OfServer {
 }
 
 // The same of an entry.
-#[derive(Drop)]
+#[derive(Clone, Copy)]
 pub(crate) enum OfEntry {
     Nothing,
     NoTerm,
@@ -39,7 +39,7 @@ pub(crate) enum OfEntry {
 }
 
 // The same of a note or a report. Only a note can be zero, or follow one of this server that it should stand before.
-#[derive(Drop)]
+#[derive(Clone, Copy)]
 pub(crate) enum OfTold {
     Nothing,
     NoSuchServer,
@@ -52,7 +52,7 @@ pub(crate) enum OfTold {
 }
 
 // A note and a report are told with the number of the server that they name.
-#[derive(Drop)]
+#[derive(Clone, Copy)]
 pub(crate) enum Fault {
     Nothing,
     Count,
@@ -66,7 +66,7 @@ pub(crate) enum Fault {
 
 // How far a text is walked: its lines, its edition, the server count and the followers, the server that was begun last and the next one, what was read of it
 // (entries and the last one, notes and whose the last one is, reports), and what was found. Once something is found the walk stays there.
-#[derive(Drop)]
+#[derive(Clone, Copy)]
 pub(crate) struct Walk {
     pub line: usize,
     pub edition: u8,
@@ -99,7 +99,7 @@ fn begun() -> Walk {
             time: clock::zero_time(),
         },
         entries: 0,
-        entry: log::zero_entry(),
+        entry: server_log::zero_entry(),
         notes: 0,
         noted: 0,
         reports: 0,
@@ -218,7 +218,7 @@ fn with_server(w: Walk, b: [u8; BYTES]) -> Walk {
         next: one_more(w.next),
         head: loads::head_in(b),
         entries: 0,
-        entry: log::zero_entry(),
+        entry: server_log::zero_entry(),
         notes: 0,
         noted: 0,
         reports: 0,
@@ -255,8 +255,8 @@ fn entry_fault(w: Walk, e: Entry) -> OfEntry {
     if w.head.term < e.term {
         return OfEntry::TermAbove(e.term, w.head.term);
     }
-    let writes = e.key <= log::HIGHEST_KEY;
-    if !writes && e.key != log::NO_KEY {
+    let writes = e.key <= server_log::HIGHEST_KEY;
+    if !writes && e.key != server_log::NO_KEY {
         return OfEntry::Key(e.key);
     }
     if writes && e.value < 1 {
@@ -365,7 +365,7 @@ fn with_line(w: Walk, line: &[u8]) -> Walk {
         return w;
     };
     let mut b = [0u8; BYTES];
-    hex::unhex(line, &mut b);
+    hex_text::unhex(line, &mut b);
     let n = Walk {
         line: one_more(w.line),
         ..w

@@ -1,5 +1,7 @@
 // The whole program, thin over the proved libraries: its orders, step lines from standard input to its end, an answer line for each, and the
 // record loaded before, saved after, and in the place of answers listed, planned for, or traced. A program crate of one line calls `run`.
+#![tactic(auto)]
+
 mod faults;
 mod list;
 mod recover;
@@ -27,7 +29,7 @@ const ORDERS_FILENO: i32 = 7;
 // Room for the answers to all that is read at once, even where every byte is a line.
 const ROOM: usize = PIECE * replay::ANSWER_LINE;
 
-#[derive(Drop)]
+#[derive(Clone, Copy)]
 pub struct Drained {
     pub session: Session,
     pub end: End,

@@ -4,9 +4,9 @@ use crate::say;
 use clock::Time;
 use cluster::{Cluster, Server};
 use libc::STDOUT_FILENO;
-use log::rows::KEYS;
 use reads::lists;
 use reads::lists::Listed;
+use server_log::rows::KEYS;
 
 // Where the columns of a row begin.
 const ROLE: usize = 8;
@@ -28,7 +28,7 @@ const STEP: usize = 11;
 const WIDTH: usize = 96;
 
 // A row of the table: its characters, where the next of them and the next car go, and whether all before it could be written.
-#[derive(Drop)]
+#[derive(Clone, Copy)]
 struct Row {
     text: [u8; WIDTH],
     fill: usize,

@@ -15,14 +15,14 @@ const LINE: usize = frames::STEP_CHARS + 1;
 const ROOM: usize = MOST_FRAMES * LINE;
 
 // The lines that were written, and how long they are.
-#[derive(Drop)]
+#[derive(Clone, Copy)]
 struct Lines {
     text: [u8; ROOM],
     fill: usize,
 }
 
 // What stands in the way at a server.
-#[derive(Drop)]
+#[derive(Clone, Copy)]
 enum Stands {
     Nothing,
     Full,
@@ -93,7 +93,7 @@ fn in_the_way(s: Server, full: bool) -> Stands {
     if !full {
         return number_at_limit(h);
     }
-    if log::has_room(g) {
+    if server_log::has_room(g) {
         Stands::Nothing
     } else {
         Stands::Full
@@ -117,7 +117,7 @@ fn of_server(i: usize, stands: Stands) {
         Stands::Nothing => (),
         Stands::Full => {
             server(b"the log", i);
-            number(b" is full, with ", log::LOG_LIMIT);
+            number(b" is full, with ", server_log::LOG_LIMIT);
             say(
                 b" entries, and the plan's write would have to go there too; a rollback may shorten it, or a start line begins a new cluster\n",
             );
@@ -173,8 +173,8 @@ fn in_the_way_of_all(c: Cluster, full: bool) {
 }
 
 fn out_of_range(key: u8) {
-    if log::HIGHEST_KEY < key {
-        number(b"a key is 0 to ", log::HIGHEST_KEY as usize);
+    if server_log::HIGHEST_KEY < key {
+        number(b"a key is 0 to ", server_log::HIGHEST_KEY as usize);
     } else {
         number(b"a value is 1 to ", clock::LIMIT as usize);
     }

@@ -17,7 +17,7 @@ const SAVE_FILENO: i32 = 6;
 const KEPT: usize = saved::LONGEST + 1;
 
 // The shape of a text as far as it was read, whether anything came on the way, and why it was read no further.
-#[derive(Drop)]
+#[derive(Clone, Copy)]
 pub struct Walked {
     pub shape: Shape,
     pub came: bool,
@@ -25,7 +25,7 @@ pub struct Walked {
 }
 
 // A record, and whether all went well on the way to it.
-#[derive(Drop)]
+#[derive(Clone, Copy)]
 pub struct Led {
     pub cluster: Cluster,
     pub well: bool,

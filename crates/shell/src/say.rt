@@ -112,7 +112,7 @@ fn due(d: Due, broken: bool) {
 }
 
 // The edition that a line names where it begins as a first frame does, and whether that isn't known.
-#[derive(Drop)]
+#[derive(Clone, Copy)]
 struct Named {
     edition: u8,
     unknown: bool,
@@ -127,9 +127,11 @@ fn none_named() -> Named {
 
 fn named_in(line: &[u8]) -> Named {
     let mut b = [0u8; saved::FIRST_BYTES];
-    hex::unhex(line, &mut b);
+    hex_text::unhex(line, &mut b);
     let edition = b[1];
-    let first = hex::CHARS * 2 <= line.len() && hex::all_hex(line) && b[0] == saved::FIRST;
+    let first = hex_text::CHARS * 2 <= line.len()
+        && hex_text::all_hex(line)
+        && b[0] == saved::FIRST;
     Named {
         edition: edition,
         unknown: first && !saved::is_known(edition),

@@ -118,7 +118,7 @@ fn of_entry(of: OfEntry) {
         OfEntry::NoValue => say(b": its value is 0, and an entry for a key has at least 1"),
         OfEntry::Unwritten(n) => {
             number(b": its value is ", n as usize);
-            number(b", and with key ", log::NO_KEY as usize);
+            number(b", and with key ", server_log::NO_KEY as usize);
             say(b" it is 0");
         }
         OfEntry::TimeStays(t, before) => {
@@ -134,8 +134,8 @@ fn of_entry(of: OfEntry) {
 
 fn key(n: usize) {
     number(b": its key is ", n);
-    number(b", and a key is 0 to ", log::HIGHEST_KEY as usize);
-    number(b", or ", log::NO_KEY as usize);
+    number(b", and a key is 0 to ", server_log::HIGHEST_KEY as usize);
+    number(b", or ", server_log::NO_KEY as usize);
     say(b" where nothing is written");
 }
 

@@ -7,7 +7,7 @@ use lib.Dec.{leb}
 use borrow.Author.Tests.{le-leb}
 use Rattle.clock.specs.Times.{zero_time}
 use Rattle.clock.proofs.Order.{later_zero}
-use Rattle.log.specs.Order.{highest_key}
+use Rattle.server_log.specs.Order.{highest_key}
 use Rattle.cluster.specs.declared.Server.{Server}
 use Rattle.steps.specs.declared.Refusal.TheVariants.{OutOfRange}
 use Rattle.steps.specs.Refusals.{decided}

@@ -4,9 +4,9 @@ use Rattle.clock.specs.declared.Time.{Time}
 use Rattle.clock.specs.declared.Ticked.{Ticked}
 use Rattle.clock.specs.declared.Ticked.TheVariants.{To, AtLimit}
 use Rattle.clock.specs.Times.{zero_time, tick_of}
-use Rattle.log.specs.declared.Entry.{Entry}
-use Rattle.log.specs.Logs.{length_of, has_room, appended}
-use Rattle.log.specs.Rows.{latest_after}
+use Rattle.server_log.specs.declared.Entry.{Entry}
+use Rattle.server_log.specs.Logs.{length_of, has_room, appended}
+use Rattle.server_log.specs.Rows.{latest_after}
 use Rattle.cluster.specs.declared.Server.{Server}
 use Rattle.cluster.specs.Servers.{with_time, with_head, with_log, with_whole}
 use Rattle.steps.specs.declared.Sends.TheVariants.{Nothing}

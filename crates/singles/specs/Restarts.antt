@@ -1,8 +1,8 @@
 -- Kind 9: a restarts. Assumes nothing.
 use Rattle.std.specs.Prelude.{false}
-use Rattle.log.specs.Entries.{applied_time}
-use Rattle.log.specs.Logs.{live}
-use Rattle.log.specs.Rows.{zero_row}
+use Rattle.server_log.specs.Entries.{applied_time}
+use Rattle.server_log.specs.Logs.{live}
+use Rattle.server_log.specs.Rows.{zero_row}
 use Rattle.mail.specs.Mails.{zero_mail}
 use Rattle.cluster.specs.declared.Server.{Server}
 use Rattle.cluster.specs.Servers.{with_primary, with_commit, with_time, with_head, with_mail, with_committed}

@@ -2,7 +2,7 @@
 use Rattle.std.specs.Prelude.{◌∷◌, ℕ, ◌+◌, leb}
 use Rattle.clock.specs.declared.Time.{Time}
 use Rattle.clock.specs.Times.{later_of}
-use Rattle.log.specs.Order.{highest_key}
+use Rattle.server_log.specs.Order.{highest_key}
 use Rattle.cluster.specs.declared.Server.{Server}
 use Rattle.steps.specs.declared.Stepped.{Stepped}
 use Rattle.steps.specs.declared.Refusal.TheVariants.{OutOfRange, ClockAhead}

@@ -1,5 +1,5 @@
 -- Kind 14: a appends an entry that writes nothing. Assumes nothing.
-use Rattle.log.specs.Order.{no_key}
+use Rattle.server_log.specs.Order.{no_key}
 use Rattle.cluster.specs.declared.Server.{Server}
 use Rattle.steps.specs.declared.Stepped.{Stepped}
 use Rattle.steps.specs.Refusals.{Rules}

@@ -4,8 +4,8 @@ ghost use Rattle.singles.specs.Appends.{stamp_done, appends_of};
 
 use clock::{Ticked, Time};
 use cluster::{Head, Server};
-use log::Entry;
-use log::rows::Rows;
+use server_log::Entry;
+use server_log::rows::Rows;
 use steps::{Answer, Refusal, Sends, Stepped};
 
 // The server with one entry more, of its term and this time, which is its new cluster time.
@@ -20,10 +20,10 @@ pub fn stamped(s: Server, key: u8, value: u16, time: Time) -> Stepped
         value: value,
         time: time,
     };
-    let more = log::append(g, e);
+    let more = server_log::append(g, e);
     let rows = s.rows;
     let before = rows.whole;
-    let whole = log::rows::latest_after(before, e);
+    let whole = server_log::rows::latest_after(before, e);
     Stepped {
         server: Server {
             head: Head { time: time, ..h },
@@ -34,7 +34,7 @@ pub fn stamped(s: Server, key: u8, value: u16, time: Time) -> Stepped
             },
             ..s
         },
-        answer: Answer::Entry(log::length_of(more), h.term, time),
+        answer: Answer::Entry(server_log::length_of(more), h.term, time),
         sends: Sends::Nothing,
     }
 }
@@ -47,7 +47,7 @@ pub fn appends(s: Server, key: u8, value: u16, from: Time) -> Stepped
         return steps::refuse(s, Refusal::WrongRole);
     }
     let g = s.log;
-    if !log::has_room(g) {
+    if !server_log::has_room(g) {
         return steps::refuse(s, Refusal::LogFull);
     }
     let Ticked::To(time) = clock::tick(s.head.wall, from) else {

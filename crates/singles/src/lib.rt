@@ -1,4 +1,6 @@
 // What a server does by itself: kinds 2, 6, 8, 9, 14 and 16, a module each.
+#![tactic(auto)]
+
 pub mod appends;
 pub mod restarts;
 pub mod steps_down;

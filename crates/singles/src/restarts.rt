@@ -3,7 +3,7 @@ ghost use Rattle.std.specs.Prelude.{◌≡◌};
 ghost use Rattle.singles.specs.Restarts.{restarts_of};
 
 use cluster::{Head, Server};
-use log::rows::Rows;
+use server_log::rows::Rows;
 use steps::{Answer, Sends, Stepped};
 
 pub fn restarts(s: Server) -> Stepped
@@ -12,7 +12,7 @@ pub fn restarts(s: Server) -> Stepped
     let h = s.head;
     let g = s.log;
     let rows = s.rows;
-    let time = log::applied_time(g);
+    let time = server_log::applied_time(g);
     Stepped {
         server: Server {
             head: Head {
@@ -23,7 +23,7 @@ pub fn restarts(s: Server) -> Stepped
             },
             mail: mail::ZERO_MAIL,
             rows: Rows {
-                committed: log::rows::ZERO_ROW,
+                committed: server_log::rows::ZERO_ROW,
                 ..rows
             },
             ..s

@@ -23,7 +23,7 @@ fn near(wall: u16, p: u16) -> bool
 pub fn writes(s: Server, key: u8, value: u16, client: Time) -> Stepped
     ensures { result ≡ writes_of s key value client }
 {
-    if log::HIGHEST_KEY < key {
+    if server_log::HIGHEST_KEY < key {
         return steps::refuse(s, Refusal::OutOfRange);
     }
     if value < 1 {

@@ -9,5 +9,5 @@ use steps::Stepped;
 pub fn writes_nothing(s: Server) -> Stepped
     ensures { result ≡ writes_nothing_of s }
 {
-    appends(s, log::NO_KEY, 0, s.head.time)
+    appends(s, server_log::NO_KEY, 0, s.head.time)
 }

@@ -1,4 +1,6 @@
 // The words of the rules: a step, a refusal, an answer, and what a step gives.
+#![tactic(auto)]
+
 ghost use Rattle.std.specs.Prelude.{◌≡◌};
 ghost use Rattle.steps.specs.Answers.{refusing, refusing_all, telling_of, number_of, is_refused};
 
@@ -7,7 +9,7 @@ use cluster::{Cluster, Server};
 use mail::Report;
 
 // One variant a kind, in the order of 01 and 02, holding just the fields that it uses, each as wide as on the wire.
-#[derive(Drop)]
+#[derive(Clone, Copy)]
 pub enum Step {
     // a servers, the set of followers
     Start(u8, u8),
@@ -45,7 +47,7 @@ pub enum Step {
 }
 
 // The fields of a step frame, in the order of its bytes; set is a set or a count.
-#[derive(Drop)]
+#[derive(Clone, Copy)]
 pub struct Frame {
     pub kind: u8,
     pub a: u8,
@@ -58,7 +60,7 @@ pub struct Frame {
 }
 
 // In the order of their numbers, from 1.
-#[derive(Drop)]
+#[derive(Clone, Copy)]
 pub enum Refusal {
     NotAFrame,
     IllFormed,
@@ -75,7 +77,7 @@ pub enum Refusal {
 }
 
 // An answer carries either its numbers or one refusal, never both.
-#[derive(Drop)]
+#[derive(Clone, Copy)]
 pub enum Answer {
     // nothing to tell
     Done,
@@ -91,21 +93,21 @@ pub enum Answer {
 }
 
 // What an answer frame says: number, term and time, or a refusal.
-#[derive(Drop)]
+#[derive(Clone, Copy)]
 pub enum Telling {
     Numbers(u16, u16, Time),
     Refusing(Refusal),
 }
 
 // What a step of one server sends: nothing, or a report to a server.
-#[derive(Drop)]
+#[derive(Clone, Copy)]
 pub enum Sends {
     Nothing,
     To(usize, Report),
 }
 
 // What a step of one server gives.
-#[derive(Drop)]
+#[derive(Clone, Copy)]
 pub struct Stepped {
     pub server: Server,
     pub answer: Answer,
@@ -113,7 +115,7 @@ pub struct Stepped {
 }
 
 // What a step of the whole record gives.
-#[derive(Drop)]
+#[derive(Clone, Copy)]
 pub struct Outcome {
     pub cluster: Cluster,
     pub answer: Answer,

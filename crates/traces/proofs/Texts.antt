@@ -16,7 +16,7 @@ use Rattle.steps.specs.declared.Answer.{Answer}
 use Rattle.steps.specs.Answers.{telling_of}
 use Rattle.answers.specs.Answers.{write_answer}
 use Rattle.answers.proofs.Lengths.{answer_line_length}
-use Rattle.hex.specs.Lines.{hex_of}
+use Rattle.hex_text.specs.Lines.{hex_of}
 use Rattle.traces.specs.declared.CutLine.{CutLine}
 use Rattle.traces.specs.declared.Pair.{Pair}
 use Rattle.traces.specs.Shown.{backslash, char_x, plus, is_plain, shown_byte, shown_bytes, places_of, decimal_of, shown_more, most_shown}

@@ -2,7 +2,7 @@
 use Rattle.std.specs.Prelude.{Bool, cond, not, ◌&&◌, List, [], ◌∷◌, ◌++◌, ℕ, ◌-◌, ◌^◌, min, eqb, leb, length, take}
 use Rattle.io.specs.Digits.{last_digits}
 use Rattle.base.specs.Numbers.{highest}
-use Rattle.hex.specs.Lines.{hex_of}
+use Rattle.hex_text.specs.Lines.{hex_of}
 use Rattle.lines.specs.Texts.{most_counted}
 
 -- the backslash, an x and a plus

@@ -1,4 +1,6 @@
 // What a trace has for a line: the line as it is shown, and its answer, as one line in plain characters. Of any line 40 bytes are kept, so in fixed memory.
+#![tactic(auto)]
+
 ghost use Rattle.std.specs.Prelude.{◌≡◌};
 ghost use Rattle.traces.specs.Shown.{is_plain, shown_byte, shown_bytes, shown_more};
 ghost use Rattle.traces.specs.Writing.{nothing_kept, kept_with, kept_after, kept_over, held_in, no_pair, put_of, put_all, pair_made};
@@ -15,7 +17,7 @@ pub const ROOM: usize = 202;
 const BACKSLASH: u8 = b'\\';
 
 // The first bytes of a line, how many there are, and how many came after them.
-#[derive(Drop)]
+#[derive(Clone, Copy)]
 pub struct CutLine {
     pub held: [u8; SHOWN],
     pub fill: usize,
@@ -23,7 +25,7 @@ pub struct CutLine {
 }
 
 // A pair's characters, and how many there are.
-#[derive(Drop)]
+#[derive(Clone, Copy)]
 pub struct Pair {
     pub text: [u8; ROOM],
     pub fill: usize,
@@ -116,7 +118,7 @@ fn put_byte(p: Pair, b: u8) -> Pair
         return put(p, b);
     }
     let q = put(put(p, BACKSLASH), b'x');
-    put(put(q, hex::char_of(b / 16)), hex::char_of(b % 16))
+    put(put(q, hex_text::char_of(b / 16)), hex_text::char_of(b % 16))
 }
 
 // The characters of bytes of a line.

@@ -9,7 +9,7 @@ use lib.Seq.{drop-append-le, drop-drop}
 use borrow.Author.Tests.{ne_eqb, le-ltb}
 use borrow.Rule.Slice.PartMut.{mid_of, put_mid, Post-is, put_same}
 use Rattle.base.proofs.Bools.{not_both}
-use Rattle.hex.specs.Lines.{hex_of, over}
+use Rattle.hex_text.specs.Lines.{hex_of, over}
 use Rattle.cluster.specs.declared.Cluster.{Cluster}
 use Rattle.cluster.specs.Servers.{server_count}
 use Rattle.cluster.specs.WellFormed.{well_formed}

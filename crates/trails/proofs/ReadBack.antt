@@ -9,8 +9,8 @@ use lib.Dec.{eqb, ltb, leb}
 use lib.ListN.{length, take}
 use Rattle.io.specs.Digits.{hex_digit_ascii, last_digits}
 use Rattle.base.proofs.Bools.{and_left}
-use Rattle.hex.specs.Digits.{radix, ten, char0, char_a, char_of}
-use Rattle.hex.specs.Lines.{hex_of}
+use Rattle.hex_text.specs.Digits.{radix, ten, char0, char_a, char_of}
+use Rattle.hex_text.specs.Lines.{hex_of}
 use Rattle.cluster.specs.declared.Cluster.{Cluster}
 use Rattle.cluster.specs.Servers.{server_count}
 use Rattle.cluster.specs.WellFormed.{well_formed}

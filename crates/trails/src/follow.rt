@@ -11,7 +11,7 @@ use lines::{End, LINE_FEED, PIECE};
 use traces::CutLine;
 
 // Where a run is: its record, what is kept of a line, and how many lines have gone before it.
-#[derive(Drop)]
+#[derive(Clone, Copy)]
 pub struct Trail {
     pub cluster: Cluster,
     pub kept: CutLine,
@@ -19,14 +19,14 @@ pub struct Trail {
 }
 
 // Where a run is, and why it was read no further.
-#[derive(Drop)]
+#[derive(Clone, Copy)]
 pub struct Followed {
     pub trail: Trail,
     pub end: End,
 }
 
 // The last record, and how a run ended: with its input where all of it was read and written.
-#[derive(Drop)]
+#[derive(Clone, Copy)]
 pub struct Traced {
     pub cluster: Cluster,
     pub end: End,

@@ -1,5 +1,7 @@
 // The trace of a text: a pair for each line that is wanted, and the form of the record where that has changed. One line's is made at a time, so in
 // fixed memory; the loop that reads and writes is in `follow`.
+#![tactic(auto)]
+
 pub mod follow;
 
 ghost use Rattle.std.specs.Prelude.{◌≡◌, false, ◌≤◌, ◌+◌, length};
@@ -17,13 +19,13 @@ use saved::Saved;
 use traces::{CutLine, Pair};
 
 // How long a first frame's line is.
-const FIRST_LINE: usize = hex::CHARS * saved::FIRST_BYTES + 1;
+const FIRST_LINE: usize = hex_text::CHARS * saved::FIRST_BYTES + 1;
 
 // Room for all that a trace has for a line.
 pub const MOST_LINE: usize = saved::LONGEST + traces::ROOM + saved::LONGEST;
 
 // What is wanted of a trace: first frames instead of whole forms; and of the lines only those after so many, and before so many unless that is 0.
-#[derive(Drop)]
+#[derive(Clone, Copy)]
 pub struct Wanted {
     pub brief: bool,
     pub before: usize,
@@ -31,7 +33,7 @@ pub struct Wanted {
 }
 
 // The record after a line, and how many bytes were written.
-#[derive(Drop)]
+#[derive(Clone, Copy)]
 pub struct Lined {
     pub cluster: Cluster,
     pub wrote: usize,
@@ -86,7 +88,7 @@ fn put_first(c: Cluster, out: &mut [u8], at: usize) -> usize
     }
     let frame = [saved::FIRST, saved::EDITION, n as u8, c.followers];
     let mut line = [LINE_FEED; FIRST_LINE];
-    hex::enhex(&frame, &mut line);
+    hex_text::enhex(&frame, &mut line);
     put_text(&line, out, at)
 }
 

@@ -1,15 +1,15 @@
 // What a step changed, looked for in every slot.
 use crate::{numbers, say, told};
 use cluster::{Cluster, Server};
-use log::Log;
+use server_log::Log;
 
 // Whether all slots are the same: both logs have them all as their common beginning when they are given the full length.
 fn same_slots(g: Log, h: Log) -> bool {
     let mut a = g;
     let mut b = h;
-    a.len = log::LOG_LIMIT;
-    b.len = log::LOG_LIMIT;
-    log::common_beginning(a, b) == log::LOG_LIMIT
+    a.len = server_log::LOG_LIMIT;
+    b.len = server_log::LOG_LIMIT;
+    server_log::common_beginning(a, b) == server_log::LOG_LIMIT
 }
 
 // Whether nothing differs, used or not.

@@ -2,7 +2,7 @@
 use crate::numbers::{PLACES, byte, word};
 use crate::say;
 use cluster::Server;
-use log::rows::{KEYS, Latest, Rows};
+use server_log::rows::{KEYS, Latest, Rows};
 
 // How many numbers there are in a line `latest`: server, 0 for the row of the whole log or 1 for that of the committed beginning, key, value.
 pub(crate) const LATEST: usize = 4;
@@ -49,7 +49,7 @@ pub(crate) fn with_latest(s: Server, line: &[u8], n: [usize; PLACES]) -> Server 
 
 // The numbers of a row's line for a key.
 fn value_row(i: usize, which: usize, key: usize, v: Latest) -> [usize; PLACES] {
-    let value = log::rows::value_for(v, byte(key)) as usize;
+    let value = server_log::rows::value_for(v, byte(key)) as usize;
     [LATEST, i, which, key, value, 0, 0, 0, 0]
 }
 

@@ -1,5 +1,7 @@
 // A whole program: reads records and the steps tried on them as a text from standard input, and writes what each step answers and what it
 // changes, and the plans that are asked for. A program crate of one line calls `run`.
+#![tactic(auto)]
+
 mod compare;
 mod latest;
 mod numbers;

@@ -5,7 +5,7 @@ use crate::told::{MAIL, NOTE, REPORT};
 use crate::{latest, numbers, say, told};
 use clock::Time;
 use cluster::{Cluster, Head, Server};
-use log::Entry;
+use server_log::Entry;
 
 // How many numbers there are in a line `fresh`, `server` and `entry`; `latest` and `told` have the other lines.
 const FRESH: usize = 2;
@@ -73,13 +73,17 @@ fn entry_of(n: [usize; PLACES]) -> Entry {
 
 // The slot of a position, past the log for position 0.
 fn slot_of(at: usize) -> usize {
-    if at == 0 { log::LOG_LIMIT } else { at - 1 }
+    if at == 0 {
+        server_log::LOG_LIMIT
+    } else {
+        at - 1
+    }
 }
 
 // The server with the entry of a line `entry` in its slot.
 fn with_entry(s: Server, line: &[u8], n: [usize; PLACES]) -> Server {
     let slot = slot_of(n[2]);
-    if log::LOG_LIMIT <= slot {
+    if server_log::LOG_LIMIT <= slot {
         say::unknown(line);
         return s;
     }

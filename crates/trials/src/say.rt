@@ -3,7 +3,7 @@ use crate::numbers::PLACES;
 use crate::record::{ENTRY, SERVER};
 use cluster::{Cluster, Server};
 use libc::STDOUT_FILENO;
-use log::{Entry, Log};
+use server_log::{Entry, Log};
 use steps::Answer;
 
 pub(crate) fn line(words: &[u8]) {
@@ -90,7 +90,7 @@ fn entry(i: usize, at: usize, e: Entry) {
 // An entry of server i, where it is within the length or not zero.
 fn slot(i: usize, at: usize, len: usize, e: Entry) {
     if len < at {
-        if log::same_entry(e, log::zero_entry()) {
+        if server_log::same_entry(e, server_log::zero_entry()) {
             return;
         }
     }
@@ -100,7 +100,7 @@ fn slot(i: usize, at: usize, len: usize, e: Entry) {
 // The entries of server i, and what slots past the length have in them.
 pub(crate) fn entries(i: usize, g: Log) {
     let mut k: usize = 0;
-    while k < log::LOG_LIMIT {
+    while k < server_log::LOG_LIMIT {
         let e = g.entries[k];
         k += 1;
         slot(i, k, g.len, e);

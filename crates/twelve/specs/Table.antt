@@ -6,10 +6,10 @@ use Rattle.clock.specs.declared.Time.{Time}
 use Rattle.clock.specs.declared.Ticked.{Ticked}
 use Rattle.clock.specs.declared.Ticked.TheVariants.{To, AtLimit}
 use Rattle.clock.specs.Times.{zero_time, is_before, same_time, tick_of}
-use Rattle.log.specs.declared.Entry.{Entry}
-use Rattle.log.specs.declared.Log.{Log}
-use Rattle.log.specs.Entries.{zero_entry, last_term, applied_time, common_beginning}
-use Rattle.log.specs.Logs.{log_limit, live}
+use Rattle.server_log.specs.declared.Entry.{Entry}
+use Rattle.server_log.specs.declared.Log.{Log}
+use Rattle.server_log.specs.Entries.{zero_entry, last_term, applied_time, common_beginning}
+use Rattle.server_log.specs.Logs.{log_limit, live}
 use Rattle.mail.specs.Reports.{zero_note}
 use Rattle.mail.specs.Mails.{zero_mail, with_notes}
 use Rattle.cluster.specs.declared.Server.{Server}

@@ -5,13 +5,13 @@ use Prim.Native.Nat.{ℕ, zero, suc, ◌+◌, ◌<◌, ◌≤◌}
 use native.Mathlib.Omega.{arith}
 use lib.ListN.{length, get_or, set, take, replicate, length-map, length-replicate, get_or-map}
 use lib.Seq.{take-length}
-use Rattle.log.specs.declared.Entry.{Entry}
-use Rattle.log.specs.declared.Log.{Log}
-use Rattle.log.specs.Entries.{zero_entry}
-use Rattle.log.specs.Logs.{log_limit, live, length_of}
-use Rattle.log.proofs.Live.{length_live, first_slots}
-use Rattle.hex.proofs.Places.{Put, put_none, put_more, put_all}
-use Rattle.hex.proofs.Trips.{over_all}
+use Rattle.server_log.specs.declared.Entry.{Entry}
+use Rattle.server_log.specs.declared.Log.{Log}
+use Rattle.server_log.specs.Entries.{zero_entry}
+use Rattle.server_log.specs.Logs.{log_limit, live, length_of}
+use Rattle.server_log.proofs.Live.{length_live, first_slots}
+use Rattle.hex_text.proofs.Places.{Put, put_none, put_more, put_all}
+use Rattle.hex_text.proofs.Trips.{over_all}
 use Rattle.histories.specs.Committed.{committed_limit, lent, entries_on, entries_of}
 use Rattle.histories.specs.Longest.{columns_of}
 use Rattle.verdicts.specs.declared.Columns.{Columns}

@@ -7,8 +7,8 @@ use native.Mathlib.Omega.{arith}
 use borrow.Author.Tests.{ne_eqb}
 use lib.Dec.{eqb}
 use lib.ListN.{length}
-use Rattle.log.specs.declared.Entry.{Entry}
-use Rattle.log.specs.Logs.{live}
+use Rattle.server_log.specs.declared.Entry.{Entry}
+use Rattle.server_log.specs.Logs.{live}
 use Rattle.cluster.specs.declared.Cluster.{Cluster}
 use Rattle.cluster.specs.Servers.{zero_cluster}
 use Rattle.frames.specs.Steps.{read_step}

@@ -1,7 +1,7 @@
 -- Each public function's contract allows one result, whatever the arguments. Assumes nothing.
 use Rattle.base.proofs.Results.{OneResult, one_result}
-use Rattle.log.specs.declared.Log.{Log}
-use Rattle.log.specs.Logs.{live}
+use Rattle.server_log.specs.declared.Log.{Log}
+use Rattle.server_log.specs.Logs.{live}
 use Rattle.histories.specs.declared.PhoneRecord.{PhoneRecord}
 use Rattle.histories.specs.Reasons.{why_of}
 use Rattle.followed.specs.declared.Run.{Run}

@@ -1,8 +1,8 @@
 -- The verdict on what phones saw, by the run that was followed and the list that was read. Assumes nothing.
 use Rattle.std.specs.Prelude.{List, map, cond, ℕ, eqb}
-use Rattle.log.specs.declared.Entry.{Entry}
-use Rattle.log.specs.declared.Log.{Log}
-use Rattle.log.specs.Logs.{live}
+use Rattle.server_log.specs.declared.Entry.{Entry}
+use Rattle.server_log.specs.declared.Log.{Log}
+use Rattle.server_log.specs.Logs.{live}
 use Rattle.histories.specs.Checking.{check_of}
 use Rattle.histories.specs.Longest.{columns_of}
 use Rattle.followed.specs.declared.Run.{Run}

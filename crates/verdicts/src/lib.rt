@@ -1,6 +1,8 @@
 // The verdict on what phones saw, by the run that was followed and the list that was read.
+#![tactic(auto)]
+
 ghost use Rattle.std.specs.Prelude.{◌≡◌};
-ghost use Rattle.log.specs.Logs.{live};
+ghost use Rattle.server_log.specs.Logs.{live};
 ghost use Rattle.histories.specs.Checking.{check_of};
 ghost use Rattle.histories.specs.Longest.{columns_of};
 ghost use Rattle.histories.specs.Reasons.{why_of};
@@ -10,10 +12,10 @@ ghost use Rattle.verdicts.specs.Verdicts.{all_columns, verdict_of};
 use followed::Run;
 use histories::why::Reason;
 use histories::{COMMITTED_LIMIT, Checked, PhoneRecord};
-use log::{LOG_LIMIT, Log};
 use phones::Listed;
+use server_log::{LOG_LIMIT, Log};
 
-#[derive(Drop)]
+#[derive(Clone, Copy)]
 pub enum Verdict {
     // the number of the first line that is no record, counted from 1
     BadLine(usize),
@@ -23,7 +25,7 @@ pub enum Verdict {
 }
 
 // A log with an array a field, as the check is lent it.
-#[derive(Drop)]
+#[derive(Clone, Copy)]
 pub struct Columns {
     pub terms: [u16; COMMITTED_LIMIT],
     pub keys: [u8; COMMITTED_LIMIT],
@@ -60,7 +62,7 @@ fn spread(g: Log) -> Columns
 fn checked(g: Log, s: Listed) -> Checked
     ensures { result ≡ check_of (records_kept s) (columns_of (live g)) }
 {
-    let n = log::length_of(g);
+    let n = server_log::length_of(g);
     let c = spread(g);
     let terms = c.terms;
     let keys = c.keys;
@@ -83,7 +85,7 @@ fn checked(g: Log, s: Listed) -> Checked
 pub fn reason(g: Log, r: PhoneRecord) -> Reason
     ensures { result ≡ why_of (live g) r }
 {
-    let n = log::length_of(g);
+    let n = server_log::length_of(g);
     let c = spread(g);
     let terms = c.terms;
     let keys = c.keys;

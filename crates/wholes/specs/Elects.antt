@@ -2,8 +2,8 @@
 use Rattle.std.specs.Prelude.{[], ◌∷◌, Bool, not, ◌&&◌, ◌||◌, ℕ, ◌+◌, eqb, ltb, leb}
 use Rattle.base.specs.Numbers.{every}
 use Rattle.clock.specs.Times.{limit}
-use Rattle.log.specs.Entries.{last_term}
-use Rattle.log.specs.Logs.{live, length_of}
+use Rattle.server_log.specs.Entries.{last_term}
+use Rattle.server_log.specs.Logs.{live, length_of}
 use Rattle.cluster.specs.declared.Server.{Server}
 use Rattle.cluster.specs.declared.Cluster.{Cluster}
 use Rattle.cluster.specs.Servers.{server_count, voter_count, server_at, elected_all}

@@ -11,15 +11,15 @@ pub fn not_behind(s: Server, t: Server) -> bool
 {
     let g = s.log;
     let h = t.log;
-    let m = log::last_term(g);
-    let n = log::last_term(h);
+    let m = server_log::last_term(g);
+    let n = server_log::last_term(h);
     if n < m {
         return true;
     }
     if n != m {
         return false;
     }
-    log::length_of(h) <= log::length_of(g)
+    server_log::length_of(h) <= server_log::length_of(g)
 }
 
 // Whether t may be a member where s is elected.

@@ -8,9 +8,9 @@ use borrow.Author.Tests.{eq-eqb, ne_eqb, eqb-true}
 use lib.Dec.{eqb}
 use lib.ListN.{length, replicate}
 use Rattle.base.proofs.Bools.{and_left, and_right}
-use Rattle.hex.specs.Lines.{chars, all_hex, bytes_of, hex_of, over}
-use Rattle.hex.proofs.Places.{bytes_length, hex_length}
-use Rattle.hex.proofs.Trips.{Bytes, bytes_hex, hex_all, hex_bytes, unhexed}
+use Rattle.hex_text.specs.Lines.{chars, all_hex, bytes_of, hex_of, over}
+use Rattle.hex_text.proofs.Places.{bytes_length, hex_length}
+use Rattle.hex_text.proofs.Trips.{Bytes, bytes_hex, hex_all, hex_bytes, unhexed}
 use Rattle.words.specs.Words.{framed}
 
 module _ {A : Type 0} (n : ℕ) (f : List ℕ → A) (none : A) where

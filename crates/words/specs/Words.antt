@@ -1,7 +1,7 @@
 -- What both frames share: a number of two bytes, and a line of so many bytes. Assumes nothing.
 use Rattle.std.specs.Prelude.{cond, ◌&&◌, List, ℕ, ◌+◌, ◌*◌, ◌/◌, ◌%◌, eqb, length, get_or}
 use Rattle.base.specs.Numbers.{byte}
-use Rattle.hex.specs.Lines.{chars, all_hex, bytes_of}
+use Rattle.hex_text.specs.Lines.{chars, all_hex, bytes_of}
 
 -- high byte first
 unfoldable pub high_of : ℕ → ℕ

@@ -1,4 +1,6 @@
 // Numbers of two bytes, the high one first.
+#![tactic(auto)]
+
 ghost use Rattle.std.specs.Prelude.{◌≡◌};
 ghost use Rattle.words.specs.Words.{high_of, low_of, word_of};
 

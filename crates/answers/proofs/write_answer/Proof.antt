@@ -1,7 +1,7 @@
 -- `answers::write_answer` meets its contract. Assumes nothing.
 use Rattle.steps.specs.Answers.{telling_of}
-use Rattle.hex.specs.Lines.{hex_of}
-use Rattle.hex.proofs.Trips.{enhexed}
+use Rattle.hex_text.specs.Lines.{hex_of}
+use Rattle.hex_text.proofs.Trips.{enhexed}
 use Rattle.answers.specs.Answers.{answer_bytes, bytes_of_telling}
 use Rattle.answers.proofs.Lengths.{telling_length}
 use mathlib.Core.Path.{ap, ◌∙◌}

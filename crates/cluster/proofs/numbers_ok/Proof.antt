@@ -1,5 +1,5 @@
 -- `cluster::numbers_ok` meets its contract. Assumes nothing.
-use Rattle.log.specs.Logs.{length_of}
+use Rattle.server_log.specs.Logs.{length_of}
 use Rattle.cluster.specs.declared.Server.{Server}
 use borrow.Author.Tests.{le-leb}
 use native.Mathlib.Omega.{arith}

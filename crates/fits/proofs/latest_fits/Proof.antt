@@ -1,5 +1,5 @@
 -- `fits::latest_fits` meets its contract. Assumes nothing.
-use Rattle.log.specs.Rows.{keys, value_for}
+use Rattle.server_log.specs.Rows.{keys, value_for}
 use Rattle.clock.specs.Times.{limit}
 use Rattle.base.proofs.Facts.{mapped_long}
 use native.Mathlib.Omega.{arith}

@@ -1,7 +1,7 @@
 -- `fits::log_fits` meets its contract. Assumes nothing.
-use Rattle.log.specs.Ranges.{FitsEntry}
-use Rattle.log.specs.Entries.{zero_entry}
-use Rattle.log.specs.Logs.{log_limit}
+use Rattle.server_log.specs.Ranges.{FitsEntry}
+use Rattle.server_log.specs.Entries.{zero_entry}
+use Rattle.server_log.specs.Logs.{log_limit}
 use Rattle.base.proofs.Facts.{mapped_long}
 use native.Mathlib.Omega.{arith}
 use borrow.Author.Count.{below_more}

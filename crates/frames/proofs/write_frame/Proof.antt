@@ -2,8 +2,8 @@
 use Rattle.frames.specs.Layout.{step_bytes}
 use Rattle.frames.proofs.Lengths.{frame_length}
 use lib.ListN.{length}
-use Rattle.hex.specs.Lines.{hex_of}
-use Rattle.hex.proofs.Trips.{enhexed}
+use Rattle.hex_text.specs.Lines.{hex_of}
+use Rattle.hex_text.proofs.Trips.{enhexed}
 use mathlib.Core.Path.{ap, ◌∙◌}
 use borrow.Author.Rules.{rules}
 use Rattle.frames.proofs.write_frame.Statement.{statement}

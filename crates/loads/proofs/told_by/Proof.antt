@@ -5,9 +5,9 @@ use mathlib.Core.Logic.{◌≢◌}
 use Prim.Native.Nat.{ℕ}
 use borrow.Author.Tests.{ne_eqb}
 use Rattle.words.specs.Words.{byte_at}
-use Rattle.log.specs.declared.Entry.{Entry}
-use Rattle.log.specs.declared.Log.{Log}
-use Rattle.log.specs.Logs.{appended}
+use Rattle.server_log.specs.declared.Entry.{Entry}
+use Rattle.server_log.specs.declared.Log.{Log}
+use Rattle.server_log.specs.Logs.{appended}
 use Rattle.mail.specs.declared.Report.{Report}
 use Rattle.mail.specs.declared.Mail.{Mail}
 use Rattle.mail.specs.Mails.{noted, received}

@@ -8,7 +8,7 @@ use Rattle.steps.specs.declared.Answer.{Answer}
 use Rattle.answers.specs.Answers.{answer_bytes, write_answer}
 use Rattle.answers.proofs.Lengths.{answer_line_length}
 use Rattle.steps.specs.Answers.{telling_of}
-use Rattle.hex.specs.Lines.{chars}
+use Rattle.hex_text.specs.Lines.{chars}
 use Rattle.lines.specs.Texts.{placed, line_feed}
 use Rattle.replay.specs.Pieces.{answer_line}
 use Rattle.replay.specs.Texts.{line_of}

@@ -7,7 +7,7 @@ use borrow.Author.Rules.{rules}
 use borrow.Author.Tests.{le-leb, lt-leb}
 use lib.ListN.{length}
 use Rattle.base.proofs.Bools.{said_no, said_yes}
-use Rattle.log.specs.Logs.{kept, length_of}
+use Rattle.server_log.specs.Logs.{kept, length_of}
 use Rattle.cluster.specs.declared.Server.{Server}
 use Rattle.saved.specs.declared.Limits.{Limits}
 use Rattle.saved.specs.Editions.{Edition, editions, edition_numbered, limits_of, notes_within, reports_within, allows_server}

@@ -5,7 +5,7 @@ use mathlib.Core.Logic.{◌≢◌}
 use Prim.Native.Nat.{ℕ}
 use borrow.Author.Tests.{eq-eqb, ne_eqb}
 use lib.Dec.{eqb}
-use Rattle.log.specs.Logs.{log_limit, highest_position}
+use Rattle.server_log.specs.Logs.{log_limit, highest_position}
 use Rattle.saved.specs.declared.Limits.{Limits}
 use Rattle.saved.specs.Editions.{edition1, edition2, edition3, editions, newest, edition_numbered, limits_of}
 use Rattle.saved.proofs.limits_of.Statement.{statement}

@@ -5,8 +5,8 @@ use native.Mathlib.Omega.{arith}
 use lib.ListN.{length}
 use borrow.Author.Rules.{rules}
 use Rattle.base.proofs.Facts.{mapped_long}
-use Rattle.log.specs.Entries.{zero_entry}
-use Rattle.log.specs.Logs.{log_limit}
+use Rattle.server_log.specs.Entries.{zero_entry}
+use Rattle.server_log.specs.Logs.{log_limit}
 use Rattle.saved.specs.Editions.{widths1}
 use Rattle.saved.specs.Layout.{entry_frame}
 use Rattle.saved.proofs.Going.{going_length, Each, each_start, each_room, each_more, each_end}

@@ -6,9 +6,9 @@ use native.Mathlib.Omega.{arith}
 use lib.ListN.{length, set, take, drop, length-take, length-drop}
 use borrow.Author.Rules.{rules}
 use borrow.Rule.Slice.PartMut.{mid_of, put_mid, Post-is}
-use Rattle.hex.specs.Lines.{chars, hex_of, over}
-use Rattle.hex.proofs.Places.{hex_length}
-use Rattle.hex.proofs.Trips.{over_all}
+use Rattle.hex_text.specs.Lines.{chars, hex_of, over}
+use Rattle.hex_text.proofs.Places.{hex_length}
+use Rattle.hex_text.proofs.Trips.{over_all}
 use Rattle.lines.specs.Texts.{placed, line_feed}
 use Rattle.lines.proofs.Placed.{placed_length, placed_set}
 use Rattle.saved.specs.Saved.{text_of}

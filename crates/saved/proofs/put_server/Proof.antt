@@ -6,7 +6,7 @@ use native.Mathlib.Omega.{arith}
 use lib.ListN.{length}
 use borrow.Author.Rules.{rules}
 use Rattle.base.proofs.Facts.{mapped_long}
-use Rattle.log.specs.Logs.{kept}
+use Rattle.server_log.specs.Logs.{kept}
 use Rattle.mail.specs.Mails.{note_slots}
 use Rattle.cluster.specs.declared.Server.{Server}
 use Rattle.saved.specs.Editions.{widths1}

@@ -7,7 +7,7 @@ use native.Mathlib.Omega.{arith}
 use lib.Dec.{eqb}
 use lib.ListN.{length, replicate}
 use Rattle.base.proofs.Bools.{said_no, said_yes, and_no}
-use Rattle.hex.specs.Lines.{chars, bytes_of, over}
+use Rattle.hex_text.specs.Lines.{chars, bytes_of, over}
 use Rattle.words.specs.Words.{byte_at, framed}
 use Rattle.words.proofs.Framed.{framed_other, framed_spoilt, framed_good}
 use Rattle.saved.specs.declared.Sort.{Sort}

@@ -3,8 +3,8 @@ use mathlib.Core.List.{List}
 use mathlib.Core.Path.{sym, ap, ◌∙◌}
 use Prim.Native.Nat.{ℕ}
 use lib.Seq.{length-take-le}
-use Rattle.log.specs.declared.Entry.{Entry}
-use Rattle.log.specs.Logs.{live}
+use Rattle.server_log.specs.declared.Entry.{Entry}
+use Rattle.server_log.specs.Logs.{live}
 use Rattle.histories.specs.Committed.{Committed, entries_of}
 use Rattle.histories.specs.Reasons.{why_of}
 use Rattle.verdicts.proofs.Filled.{Fitting, all_fit, lent_columns, columns_same}

@@ -5,7 +5,7 @@ use native.Mathlib.Omega.{arith}
 use lib.ListN.{length}
 use borrow.Author.Rules.{rules}
 use Rattle.base.proofs.Facts.{mapped_long}
-use Rattle.log.specs.Logs.{log_limit}
+use Rattle.server_log.specs.Logs.{log_limit}
 use Rattle.verdicts.proofs.Filled.{AllFilled, all_none, all_more, all_done}
 use Rattle.verdicts.proofs.spread.Statement.{statement}
 use Rattle.verdicts.proofs.spread.Tie as tie

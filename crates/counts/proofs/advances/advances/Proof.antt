@@ -5,7 +5,7 @@ use Rattle.steps.proofs.Decided.{decided_clear, decided_broken}
 use Rattle.steps.specs.Answers.{refusing_all}
 use Rattle.steps.specs.declared.Answer.TheVariants.{Reached}
 use Rattle.steps.specs.declared.Outcome.{Outcome}
-use Rattle.log.specs.declared.rows.Latest.{Latest}
+use Rattle.server_log.specs.declared.rows.Latest.{Latest}
 use Rattle.cluster.specs.Servers.{server_at, server_count, with_commit, with_head, with_committed, with_server}
 use Prim.Native.Nat.{ℕ}
 use borrow.Author.Tests.{lt-ltb, le-ltb, le-leb, lt-leb, not-true, not-false}

@@ -2,7 +2,7 @@
 use Rattle.counts.proofs.Passing.{passes_low, passes_yes, passes_old, passes_few}
 use Rattle.counts.specs.Advances.{backs, backers, passes, highest_passing}
 use Rattle.cluster.specs.Sets.{votes}
-use Rattle.log.specs.Logs.{length_of}
+use Rattle.server_log.specs.Logs.{length_of}
 use Rattle.base.proofs.Highest.{highest_here, highest_down, highest_none}
 use Rattle.base.proofs.Counting.{count_none, count_yes, count_no}
 use Rattle.base.specs.Numbers.{count, highest}

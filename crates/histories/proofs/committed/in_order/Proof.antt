@@ -1,8 +1,8 @@
 -- `histories::committed::in_order` meets its contract: the loop carries the last entry along, as in `log`. Assumes nothing.
 use Rattle.histories.specs.Committed.{lent, entries_of}
-use Rattle.log.proofs.Placed.{Placed, placed_none, placed_all, placed_more, placed_fails}
-use Rattle.log.specs.declared.Entry.{Entry}
-use Rattle.log.specs.Entries.{entry_at}
+use Rattle.server_log.proofs.Placed.{Placed, placed_none, placed_all, placed_more, placed_fails}
+use Rattle.server_log.specs.declared.Entry.{Entry}
+use Rattle.server_log.specs.Entries.{entry_at}
 use Rattle.clock.specs.Times.{limit}
 use Rattle.base.proofs.Bools.{said_no, said_yes}
 use native.Mathlib.Numerals.{add-one}

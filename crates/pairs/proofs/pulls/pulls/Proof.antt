@@ -1,6 +1,6 @@
 -- `pairs::pulls::pulls` meets its contract. Assumes nothing.
 use Rattle.pairs.specs.Pulls.{may_join}
-use Rattle.log.specs.Logs.{length_of, joined}
+use Rattle.server_log.specs.Logs.{length_of, joined}
 use Rattle.base.proofs.Bools.{said_no, said_yes}
 use borrow.Author.Tests.{lt-ltb, le-ltb}
 use native.Mathlib.Omega.{arith}

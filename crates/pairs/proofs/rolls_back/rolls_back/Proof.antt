@@ -1,8 +1,8 @@
 -- `pairs::rolls_back::rolls_back` meets its contract. Assumes nothing.
 use Rattle.pairs.specs.RollsBack.{common}
-use Rattle.log.specs.Logs.{live, length_of, joined}
-use Rattle.log.specs.Rows.{zero_row, latest_over, between}
-use Rattle.log.specs.Entries.{last_term, is_beginning}
+use Rattle.server_log.specs.Logs.{live, length_of, joined}
+use Rattle.server_log.specs.Rows.{zero_row, latest_over, between}
+use Rattle.server_log.specs.Entries.{last_term, is_beginning}
 use borrow.Author.Tests.{lt-ltb, le-ltb, le-leb, lt-leb}
 use native.Mathlib.Omega.{arith}
 use lib.Dec.{ltb, leb}

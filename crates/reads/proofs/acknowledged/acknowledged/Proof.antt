@@ -5,8 +5,8 @@ use Rattle.steps.proofs.Decided.{decided_clear, decided_broken}
 use Rattle.steps.specs.Answers.{refusing}
 use Rattle.cluster.specs.declared.Server.{Server}
 use Rattle.reads.specs.Acknowledged.{acknowledge_rules, acknowledge_done, acknowledged_of}
-use Rattle.log.specs.Entries.{has_entry}
-use Rattle.log.specs.Logs.{may_ask, live}
+use Rattle.server_log.specs.Entries.{has_entry}
+use Rattle.server_log.specs.Logs.{may_ask, live}
 use Rattle.base.proofs.Bools.{said_no, said_yes}
 use borrow.Author.Tests.{le-leb, lt-leb, eq-eqb, ne_eqb}
 use lib.Dec.{eqb, leb}

@@ -1,7 +1,7 @@
 -- `reads::local_read::local_read` meets its contract. Assumes nothing.
-use Rattle.log.specs.Order.{highest_key}
-use Rattle.log.specs.Logs.{live}
-use Rattle.log.specs.Entries.{applied_time}
+use Rattle.server_log.specs.Order.{highest_key}
+use Rattle.server_log.specs.Logs.{live}
+use Rattle.server_log.specs.Entries.{applied_time}
 use Rattle.clock.specs.Times.{is_before}
 use Rattle.clock.specs.declared.Time.{Time}
 use borrow.Author.Tests.{le-leb, lt-leb}

@@ -1,6 +1,6 @@
 -- `reads::majority_read::majority_read` meets its contract. Assumes nothing.
 use Rattle.reads.specs.MajorityRead.{commit_time}
-use Rattle.log.specs.Order.{highest_key}
+use Rattle.server_log.specs.Order.{highest_key}
 use Rattle.clock.specs.Times.{is_before}
 use Rattle.clock.specs.declared.Time.{Time}
 use borrow.Author.Tests.{le-leb, lt-leb}

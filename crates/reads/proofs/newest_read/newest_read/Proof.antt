@@ -5,9 +5,9 @@ use Rattle.steps.proofs.Decided.{decided_clear, decided_broken}
 use Rattle.steps.specs.Answers.{refusing}
 use Rattle.cluster.specs.declared.Server.{Server}
 use Rattle.reads.specs.NewestRead.{newest_rules, newest_done, newest_read_of}
-use Rattle.log.specs.Entries.{has_entry}
-use Rattle.log.specs.Logs.{may_ask, live}
-use Rattle.log.specs.Order.{highest_key}
+use Rattle.server_log.specs.Entries.{has_entry}
+use Rattle.server_log.specs.Logs.{may_ask, live}
+use Rattle.server_log.specs.Order.{highest_key}
 use Rattle.base.proofs.Bools.{said_no, said_yes}
 use borrow.Author.Tests.{le-leb, lt-leb, eq-eqb, ne_eqb, not-true, not-false}
 use lib.Dec.{eqb, leb}

@@ -3,7 +3,7 @@ use Rattle.steps.specs.Reasons.{here, later}
 use Rattle.steps.proofs.Decided.{decided_clear, decided_broken}
 use Rattle.steps.specs.Answers.{refusing}
 use Rattle.singles.specs.Appends.{ticks, tick_time, append_rules, append_done, stamp_done}
-use Rattle.log.specs.Logs.{has_room}
+use Rattle.server_log.specs.Logs.{has_room}
 use Rattle.clock.specs.declared.Ticked.{Ticked}
 use Rattle.base.proofs.Bools.{said_no, said_yes}
 use borrow.Author.Tests.{not-true, not-false}

@@ -1,5 +1,5 @@
 -- `singles::writes::writes` meets its contract. Assumes nothing.
-use Rattle.log.specs.Order.{highest_key}
+use Rattle.server_log.specs.Order.{highest_key}
 use Rattle.base.proofs.Bools.{said_no, said_yes}
 use borrow.Author.Tests.{le-leb, lt-leb}
 use lib.Dec.{leb}

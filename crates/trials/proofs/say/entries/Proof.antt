@@ -1,7 +1,7 @@
 -- `trials::say::entries` is safe and ends. Assumes nothing.
 use Prim.Native.Nat.{◌≤◌, ◌-◌}
 use borrow.Author.Rules.{rules}
-use Rattle.log.specs.Logs.{log_limit}
+use Rattle.server_log.specs.Logs.{log_limit}
 use Rattle.trials.proofs.say.entries.Statement.{statement}
 use Rattle.trials.proofs.say.entries.Tie as tie
 
