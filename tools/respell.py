@@ -18,16 +18,14 @@ TOKEN = re.compile(r"[^\s(){}\[\],;.\"«»@`]+")
 SIGNED = re.compile(r"^\s*((?:(?:abbrev|unfoldable|pub|axiom)\s+)*)(?:module _ .* where\s+)?([^\s(){}\[\],;.\"«»:]+)\s+:(?:\s|$)")
 KEYWORDS = set("data record deriving module where use mod pub package open as unfoldable abbrev axiom unfold unfolding ruleset mutual infix infixl infixr elim let in do Type".split())
 RULESET = re.compile(r"^\s*(?:pub\s+)?ruleset\s+([^\s(){}\[\],;.:]+)")
-# A lemma that would have its function's name gets _lem.
+# A lemma that would have its function's name gets _lem: those that the words of specs/ don't tell, since their plain spelling was taken before.
 LEMMAS = {
     "cluster.proofs.Masks": ["ones-in"],
-    "hex.proofs.Places": ["char-at"],
     "lines.proofs.Held": ["too_long"],
     "loads.proofs.Texts": ["same_text"],
     "log.proofs.Orderly": ["in_order"],
     "recovery.proofs.Best": ["not_behind"],
     "replay.proofs.Whole": ["says_all"],
-    "rules.proofs.Others": ["changed-by"],
     "rules.proofs.Shut": ["leaves_all"],
     "safety.proofs.SeenMajorities": ["not_behind"],
     "traces.proofs.Keeping": ["one_more"],
@@ -117,6 +115,12 @@ def main(argv):
     for p in files(".antt"):
         own[module_of(p)] = defined(read(p)) if not is_walk(p) else set()
     turned = {m: {n: new_name(n) for n in names if new_name(n) != n} for m, names in own.items()}
+    words = {new_name(n) for m, names in own.items() if ".specs." in m for n in names}
+    inner = own_fields()
+    for m, names in own.items():
+        if ".proofs." in m:
+            turned[m].update({n: new_name(n) + "_lem" for n in names - inner if "-" in n and new_name(n) in words})
+    turned["Rattle.rules.proofs.Others"]["changed-by"] = "changed_by_lem"
     for m, names in LEMMAS.items():
         turned["Rattle." + m].update({n: new_name(n) + "_lem" for n in names})
     for m, names in OTHER.items():
@@ -133,7 +137,7 @@ def main(argv):
     # A camel-case word is nobody's but the repository's.
     camel = {n: t for names in turned.values() for n, t in names.items() if re.search(r"[a-z0-9][A-Z]", n.split("-")[0]) and n[0].islower()}
     trouble = []
-    fields = {n: new_name(n) for n in own_fields() if new_name(n) != n}
+    fields = {n: new_name(n) for n in inner if new_name(n) != n}
 
     def here(module, names):
         return module in turned and {n: turned[module][n] for n in names if n in turned[module]} or {}

@@ -25,7 +25,7 @@ use Rattle.answers.specs.Answers.{answer_bytes, done, answer_frame, bytes_of_tel
 use Rattle.answers.specs.Ranges.{FitsTelling}
 use Rattle.base.proofs.Cases.{◌▸◌}
 use Rattle.words.proofs.Bytes.{high_word, low_word, word_parts, high_below, low_below, word_below, listed}
-use Rattle.words.proofs.Framed.{framed_hex, is_frame}
+use Rattle.words.proofs.Framed.{framed_hex, is_frame_lem}
 use Rattle.answers.proofs.Lengths.{telling_length}
 use Rattle.answers.proofs.Numbered.{is_telling, no_telling, number_low, refusal_of_number, found}
 
@@ -110,13 +110,13 @@ by_fits refusal number term time t n m f = go (eqb refusal done) (eqb number 0 &
 pub written_read_telling : (line : List ℕ) (t : Telling) → read_answer line ≡ R.Telling t → write_telling t ≡ line
 unfolding telling_in
 written_read_telling line t e =
-    let f = is_frame answer_bytes telling_in R.NoFrame line (R.Telling t) e no_telling in
+    let f = is_frame_lem answer_bytes telling_in R.NoFrame line (R.Telling t) e no_telling in
     ap hex_of (by_written _ _ _ _ t f.made ∙ frame_of_fields (bytes_of line) (bytes_below line) f.long) ∙ f.written
 
 -- what is read fits
 pub read_telling_fits : (line : List ℕ) (t : Telling) → read_answer line ≡ R.Telling t → FitsTelling t
 unfolding telling_in
 read_telling_fits line t e =
-    let f = is_frame answer_bytes telling_in R.NoFrame line (R.Telling t) e no_telling in
+    let f = is_frame_lem answer_bytes telling_in R.NoFrame line (R.Telling t) e no_telling in
     let b = byte_below (bytes_of line) (bytes_below line) in
     by_fits _ _ _ _ t (word_below _ _ (b 1) (b 2)) (word_below _ _ (b 3) (b 4)) (record { p = word_below _ _ (b 5) (b 6); l = word_below _ _ (b 7) (b 8) }) f.made

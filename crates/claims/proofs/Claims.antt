@@ -310,16 +310,16 @@ steps_fit s e = e.1
 
 -- the four programs that 01 wants shut out differ from the step
 pub refusing_every_step_differs : (r : Refusal) → Differs (refuses_each r)
-refusing_every_step_differs = shut.refuses_each
+refusing_every_step_differs = shut.refuses_each_lem
 
 pub one_answer_differs : (a : Answer) → Differs (says_one a)
-one_answer_differs = shut.says_one
+one_answer_differs = shut.says_one_lem
 
 pub leaving_the_record_differs : Differs leaves_all
 leaving_the_record_differs = shut.leaves_all_lem
 
 pub echoing_later_differs : Differs echoes_later
-echoing_later_differs = shut.echoes_later
+echoing_later_differs = shut.echoes_later_lem
 
 -- 01's twelve
 pub the_twelve_hold : all row_holds table ≡ true
@@ -612,7 +612,7 @@ a_write_is_after_its_client = stamped.written
 pub no_time_is_the_old_write : (s : Server) (key value : ℕ) → let now = s.head.time in
     writes_of s key value zero_time
     ≡ decided (refusing s) (append_done s key value now) ((leb key highest_key, OutOfRange) ∷ (leb 1 value, OutOfRange) ∷ append_rules s now)
-no_time_is_the_old_write = zero_time.zero_time
+no_time_is_the_old_write = zero_time.zero_time_lem
 
 -- no broken phone pushes the clocks to their end: no time is more than 600 above the greatest wall clock, and wall clocks never fall
 pub no_phone_pushes_the_clocks : ClocksPromised

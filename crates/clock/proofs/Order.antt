@@ -19,9 +19,9 @@ pub record NotAfter (s t : Time) : Type 0 where
   pub le : s.p ≤ t.p
   pub eq : s.p ≡ t.p → s.l ≤ t.l
 
-pub is_before : (s t : Time) → is_before s t ≡ true → Before s t
+pub is_before_lem : (s t : Time) → is_before s t ≡ true → Before s t
 unfolding is_before
-is_before s t e = go (or_cases (ltb s.p t.p) _ e)
+is_before_lem s t e = go (or_cases (ltb s.p t.p) _ e)
   where
     go : (ltb s.p t.p ≡ true) ⊎ ((eqb s.p t.p && ltb s.l t.l) ≡ true) → Before s t
     go (inl h) = let k = ltb-true s.p t.p h in record { le = omega arith; eq = λ q. omega arith }
@@ -41,9 +41,9 @@ before_is s t b = go (ltb s.p t.p) refl
         let e : s.p ≡ t.p = omega (arith, b.le) in
         rw (eq-eqb _ _ e, lt-ltb _ _ (b.eq e))
 
-pub not_before : (s t : Time) → is_before t s ≡ false → NotAfter s t
+pub not_before_lem : (s t : Time) → is_before t s ≡ false → NotAfter s t
 unfolding is_before
-not_before s t e = go (ltb t.p s.p) refl e
+not_before_lem s t e = go (ltb t.p s.p) refl e
   where
     again : (x : Bool) → eqb t.p s.p ≡ x → ltb t.p s.p ≡ false → (x && ltb t.l s.l) ≡ false → NotAfter s t
     again true q h e =
@@ -64,7 +64,7 @@ not_before_is s t n = go (is_before t s) refl
   where
     go : (x : Bool) → is_before t s ≡ x → x ≡ false
     go true e =
-        let b = is_before t s e in
+        let b = is_before_lem t s e in
         let q : t.p ≡ s.p = omega (arith, b.le, n.le) in
         let x = b.eq q in
         let y = n.eq (omega arith) in
@@ -78,14 +78,14 @@ before_itself s = not_before_is s s (record { le = omega arith; eq = λ e. omega
 -- a time that is before another is not after it
 pub before_not_after : (s t : Time) → is_before s t ≡ true → is_before t s ≡ false
 before_not_after s t e =
-    let b = is_before s t e in
+    let b = is_before_lem s t e in
     not_before_is s t (record { le = b.le; eq = λ q. let x = b.eq q in omega arith })
 
 -- the order is transitive, also where only the first or only the second is strict
 pub before_then : (s t u : Time) → is_before s t ≡ true → is_before u t ≡ false → is_before s u ≡ true
 before_then s t u e f =
-    let b = is_before s t e in
-    let d = not_before t u f in
+    let b = is_before_lem s t e in
+    let d = not_before_lem t u f in
     let le : s.p ≤ u.p = omega (arith, b.le, d.le) in
     before_is s u (record { le = le; eq = λ q. let x = b.eq (omega (arith, b.le, d.le)) in let y = d.eq (omega (arith, b.le, d.le)) in omega arith })
 
@@ -121,8 +121,8 @@ same_time_refl s = simp (eq-eqb _ _ (refl {a = s.p}), eq-eqb _ _ (refl {a = s.l}
 -- the order is total: one is before the other, or they are equal
 pub before_total : (s t : Time) → is_before s t ≡ false → is_before t s ≡ false → s ≡ t
 before_total s t e f =
-    let a = not_before s t f in
-    let b = not_before t s e in
+    let a = not_before_lem s t f in
+    let b = not_before_lem t s e in
     let hp : s.p ≡ t.p = omega (arith, a.le, b.le) in
     let x = a.eq hp in
     let y = b.eq (omega arith) in

@@ -1,5 +1,5 @@
 // Times by value: their order, the later of two, and the tick.
-#![tactic(auto)]
+#![tactic(auto, unfolding(crate::specs::Times::is_before, crate::specs::Times::same_time, crate::specs::Times::later_of, crate::specs::Times::tick_of))]
 
 ghost use Rattle.std.specs.Prelude.{◌≡◌};
 ghost use Rattle.clock.specs.Times.{zero_time, is_before, same_time, later_of, tick_of};

@@ -17,7 +17,7 @@ use Rattle.server_log.specs.Entries.{applied_time}
 use Rattle.server_log.specs.Logs.{log_limit, empty_log, live, length_of}
 use Rattle.server_log.specs.Order.{is_empty_log, log_ok}
 use Rattle.server_log.specs.Rows.{rows_of, rows_ok}
-use Rattle.server_log.proofs.Orderly.{LogGood, log_good, good_log, empty_log_is, is_empty_log}
+use Rattle.server_log.proofs.Orderly.{LogGood, log_good, good_log, empty_log_is, is_empty_log_lem}
 use Rattle.server_log.proofs.Rowed.{RowsGood, rows_good, good_rows, rows_of_good, rows_are}
 use Rattle.mail.specs.Mails.{zero_mail}
 use Rattle.mail.specs.Order.{mail_ok}
@@ -92,7 +92,7 @@ zero_is s f rows h told =
 
 pub is_zero : (s : Server) → s ≡ zero_server → zero_ok s ≡ true
 unfolding zero_ok
-is_zero s e = ap zero_ok e ∙ rw (is_empty_log, same_time_refl zero_time)
+is_zero s e = ap zero_ok e ∙ rw (is_empty_log_lem, same_time_refl zero_time)
 
 past_good : (i : ℕ) (s : Server) → FitsServer s → rows_ok s.rows s.log s.head.commit ≡ true → (zero_ok s && mail_ok 0 i s.mail) ≡ true → s ≡ zero_server
 past_good i s f r h = zero_is s f r (and_left _ _ h) (zero_mail_is i f.mail (and_right (zero_ok s) _ h))
@@ -100,8 +100,8 @@ past_good i s f r h = zero_is s f r (and_left _ _ h) (zero_mail_is i f.mail (and
 good_past : (i : ℕ) (s : Server) → s ≡ zero_server → (zero_ok s && mail_ok 0 i s.mail) ≡ true
 good_past i s e = and_both _ _ (is_zero s e) (ap (λ (x : Server). mail_ok 0 i x.mail) e ∙ zero_mail_ok i)
 
-zero_rows : (s : Server) → s ≡ zero_server → rows_ok s.rows s.log s.head.commit ≡ true
-zero_rows s e = ap (λ (x : Server). rows_ok x.rows x.log x.head.commit) e ∙ good_rows (rows_of_good empty_log 0)
+zero_rows_lem : (s : Server) → s ≡ zero_server → rows_ok s.rows s.log s.head.commit ≡ true
+zero_rows_lem s e = ap (λ (x : Server). rows_ok x.rows x.log x.head.commit) e ∙ good_rows (rows_of_good empty_log 0)
 
 -- ---- how many servers, and which of them are followers
 
@@ -190,4 +190,4 @@ well_formed c g =
         (and_both _ _ (good_mail (g.mailed i l)) (a_voter c.followers i (server_at c i) (g.primaries_vote i l)))))
 
     past_place : (i : ℕ) → c.count ≤ i → i < most_servers → server_ok c.count c.followers i (server_at c i) ≡ true
-    past_place i l m = rw (le-ltb i c.count l) (and_both _ _ (zero_rows (server_at c i) (g.past i l m)) (good_past i (server_at c i) (g.past i l m)))
+    past_place i l m = rw (le-ltb i c.count l) (and_both _ _ (zero_rows_lem (server_at c i) (g.past i l m)) (good_past i (server_at c i) (g.past i l m)))

@@ -22,7 +22,7 @@ use Rattle.frames.specs.Layout.{step_bytes, bytes_of_frame, frame_of}
 use Rattle.frames.specs.Kinds.{kinds, is_clean, step_of_frame}
 use Rattle.frames.specs.Steps.{step_in, read_step, write_step}
 use Rattle.base.proofs.Cases.{◌▸◌, case_at}
-use Rattle.words.proofs.Framed.{framed_hex, is_frame}
+use Rattle.words.proofs.Framed.{framed_hex, is_frame_lem}
 use Rattle.frames.proofs.Unknown.{unknown_kind}
 use Rattle.frames.proofs.Lengths.{frame_length}
 use Rattle.frames.proofs.StepFrames.{frame_bytes, bytes_fit, fields_of_bytes, bytes_of_fields, masked, clean_masked}
@@ -123,11 +123,11 @@ read_written_step s h =
 pub written_read_step : (line : List ℕ) (s : Step) → read_step line ≡ R.Step s → write_step s ≡ line
 unfolding Read
 written_read_step line s e =
-    let f = is_frame step_bytes step_in R.NoFrame line (R.Step s) e no_step in
+    let f = is_frame_lem step_bytes step_in R.NoFrame line (R.Step s) e no_step in
     ap hex_of (read_from (bytes_of line) s (bytes_below line) f.long f.made).0 ∙ f.written
 
 -- what is read fits
 pub read_step_fits : (line : List ℕ) (s : Step) → read_step line ≡ R.Step s → FitsStep s
 unfolding Read
 read_step_fits line s e =
-    let f = is_frame step_bytes step_in R.NoFrame line (R.Step s) e no_step in (read_from (bytes_of line) s (bytes_below line) f.long f.made).1
+    let f = is_frame_lem step_bytes step_in R.NoFrame line (R.Step s) e no_step in (read_from (bytes_of line) s (bytes_below line) f.long f.made).1

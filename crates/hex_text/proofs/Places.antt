@@ -58,5 +58,5 @@ put_more {xs} {ys} {out} {i} {v} h p q e =
     }
 
 -- one of both is at its end
-pub put_all : {xs ys out : List ℕ} {i : ℕ} → Put xs ys out i → i ≡ min (length xs) (length ys) → out ≡ over xs ys
-put_all {xs} {ys} h e = h.first ∙ ap (λ (k : ℕ). joined_at k xs ys) e
+pub put_all_lem : {xs ys out : List ℕ} {i : ℕ} → Put xs ys out i → i ≡ min (length xs) (length ys) → out ≡ over xs ys
+put_all_lem {xs} {ys} h e = h.first ∙ ap (λ (k : ℕ). joined_at k xs ys) e

@@ -31,9 +31,9 @@ module _ (es : List Entry) (r : PhoneRecord) where
   abbrev here : Entry
   here = entry_at es r.position
 
-  write_obeys : write_obeys es r ≡ true → WriteObeys es r
+  write_obeys_lem : write_obeys es r ≡ true → WriteObeys es r
   unfolding write_obeys same_write
-  write_obeys h =
+  write_obeys_lem h =
       let h2 = and_right (leb 1 r.position) _ h in
       let h3 = and_right (leb r.position (length es)) _ h2 in
       let h4 = and_right (eqb here.key r.key) _ h3 in
@@ -71,9 +71,9 @@ module _ (es : List Entry) (t : Time) where
   abbrev at_time : Entry → Bool
   at_time e = same_time e.time t
 
-  known_time : known_time es t ≡ true → (t ≡ zero_time) ⊎ SomeEntry es t
+  known_time_lem : known_time es t ≡ true → (t ≡ zero_time) ⊎ SomeEntry es t
   unfolding known_time
-  known_time h = ⊎_elim (λ z. inl (same_time_eq t zero_time z)) some (or_cases (same_time t zero_time) _ h)
+  known_time_lem h = ⊎_elim (λ z. inl (same_time_eq t zero_time z)) some (or_cases (same_time t zero_time) _ h)
     where
       some : leb 1 (last_where at_time es) ≡ true → (t ≡ zero_time) ⊎ SomeEntry es t
       some l =
@@ -152,9 +152,9 @@ module _ (rs : List PhoneRecord) (i : ℕ) (h : i ≤ length rs) where
   earlier_at : (j : ℕ) → j < i → not_before (record_at (take i rs) j) (record_at rs i) ≡ not_before (record_at rs j) (record_at rs i)
   earlier_at j l = ap (λ (e : PhoneRecord). not_before e (record_at rs i)) (get_or-take i rs j no_record l)
 
-  keeps_order : keeps_order (take i rs) (record_at rs i) ≡ true → InOrder
+  keeps_order_lem : keeps_order (take i rs) (record_at rs i) ≡ true → InOrder
   unfolding keeps_order not_before
-  keeps_order k j l s =
+  keeps_order_lem k j l s =
       let n = sym (earlier_at j l) ∙ every_at _ (length (take i rs)) j k (omega (arith, length-take-le i rs h)) in
       let e = eq-eqb (record_at rs j).session (record_at rs i).session s in
       ap (λ (b : Bool). b && is_before (record_at rs i).time (record_at rs j).time) (sym e) ∙ not-true _ n
@@ -177,15 +177,15 @@ module _ (es : List Entry) (rs : List PhoneRecord) (i : ℕ) (h : i ≤ length r
   abbrev now : PhoneRecord
   now = record_at rs i
 
-  read_obeys : read_obeys es (take i rs) now ≡ true → ReadObeys es rs i
+  read_obeys_lem : read_obeys es (take i rs) now ≡ true → ReadObeys es rs i
   unfolding read_obeys
-  read_obeys k =
+  read_obeys_lem k =
       let k2 = and_right (known_time es now.time) _ k in
       let v = eqb-true (value_at es now.key now.time) now.value (and_left _ _ k2) in
       record {
-        time = known_time es now.time (and_left _ _ k);
+        time = known_time_lem es now.time (and_left _ _ k);
         value = subst (λ (x : ℕ). LastReadable es now.key now.time x ⊎ NoValueFor es now.key now.time x) v (value_found es now.key now.time);
-        order = keeps_order rs i h (and_right (eqb (value_at es now.key now.time) now.value) _ k2);
+        order = keeps_order_lem rs i h (and_right (eqb (value_at es now.key now.time) now.value) _ k2);
       }
 
   obeys_read : ReadObeys es rs i → read_obeys es (take i rs) now ≡ true
@@ -199,8 +199,8 @@ module _ (es : List Entry) (rs : List PhoneRecord) (i : ℕ) (h : i ≤ length r
   obeys_fact k = go (eqb now.kind write_kind) refl k
     where
       go : (b : Bool) → eqb now.kind write_kind ≡ b → cond b (write_obeys es now) (read_obeys es (take i rs) now) ≡ true → Obeys es rs i
-      go true e k = let w = eqb-true now.kind write_kind e in record { write = λ _. write_obeys es now k; read = λ q. absurd (omega arith) }
-      go false e k = record { write = λ q. absurd (eqb-false now.kind write_kind e q); read = λ _. read_obeys k }
+      go true e k = let w = eqb-true now.kind write_kind e in record { write = λ _. write_obeys_lem es now k; read = λ q. absurd (omega arith) }
+      go false e k = record { write = λ q. absurd (eqb-false now.kind write_kind e q); read = λ _. read_obeys_lem k }
 
   pub fact_obeys : InRange now → Obeys es rs i → obeys_at es rs i ≡ true
   unfolding obeys
@@ -248,9 +248,9 @@ module _ (g : Committed) where
 
 -- ---- the list
 
-in_range : (r : PhoneRecord) → record_in_range r ≡ true → InRange r
+in_range_lem : (r : PhoneRecord) → record_in_range r ≡ true → InRange r
 unfolding record_in_range
-in_range r h =
+in_range_lem r h =
     record {
       kind = ⊎_elim (λ e. inl (eqb-true r.kind write_kind e)) (λ e. inr (eqb-true r.kind read_kind e)) (or_cases (eqb r.kind write_kind) _ (and_right (leb r.key highest_key) _ h));
       key = leb-true r.key highest_key (and_left _ _ h);
@@ -268,7 +268,7 @@ module _ (rs : List PhoneRecord) where
   list_fits h =
       record {
         few = leb-true (length rs) most_records (and_left _ _ h);
-        each = λ i l. in_range (record_at rs i) (every_at _ (length rs) i (and_right (leb (length rs) most_records) _ h) l);
+        each = λ i l. in_range_lem (record_at rs i) (every_at _ (length rs) i (and_right (leb (length rs) most_records) _ h) l);
       }
 
   pub fits_list : ListFits rs → list_ok rs (length rs) ≡ true

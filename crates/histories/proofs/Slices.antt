@@ -30,8 +30,8 @@ part x = slice_val x.ref_ptr (length x.now)
 abbrev pub parts_of : Five → List Val × (List Val × (List Val × (List Val × (List Val × Unit {0}))))
 parts_of g = (part g.0 ∷ [], (part g.1.0 ∷ [], (part g.1.1.0 ∷ [], (part g.1.1.1.0 ∷ [], (part g.1.1.1.1.0 ∷ [], tt)))))
 
-abbrev pub log_of : Five → Committed
-log_of g = lent g.0.now g.1.0.now g.1.1.0.now g.1.1.1.0.now g.1.1.1.1.0.now
+abbrev pub log_of_lem : Five → Committed
+log_of_lem g = lent g.0.now g.1.0.now g.1.1.0.now g.1.1.1.0.now g.1.1.1.1.0.now
 
 module _ {M : Type 1} {𝓤 : Ura M} (𝓛 : Logic 𝓤) (κ κ' : Lft) (within : Incl κ' κ) where
   shorter : (N : RattleType) (x : Bor (List N.Denot)) (vs : List Val) → ent 𝓤 (sem 𝓛 ((ShrSlice (named 0) κ N).own_val x vs)) (sem 𝓛 ((ShrSlice (named 0) κ' N).own_val x vs))

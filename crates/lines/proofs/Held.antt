@@ -135,8 +135,8 @@ module _ {A : Type 0} (m : ℕ) (f : List ℕ → A) (none : A) (n : ℕ) (room 
   too_long_lem : none ≡ framed m f none (too_long n)
   too_long_lem = framed_other m f none (too_long n) (λ e. omega (arith, length-replicate {A = ℕ} (suc n) 0))
 
-  pub held_over : over ≡ true → none ≡ framed m f none (held_line n held fill over)
-  held_over e = rw e too_long_lem
+  pub held_over_lem : over ≡ true → none ≡ framed m f none (held_line n held fill over)
+  held_over_lem e = rw e too_long_lem
 
   pub held_past : n < fill → none ≡ framed m f none (held_line n held fill over)
   held_past h = go over
@@ -158,7 +158,7 @@ module _ {A : Type 0} (m : ℕ) (f : List ℕ → A) (none : A) (n : ℕ) (room 
   held_framed {p} (long o l) = sym (go over refl) ∙ framed_other m f none p (λ e. omega arith)
     where
       go : (x : Bool) → over ≡ x → none ≡ framed m f none (held_line n held fill over)
-      go true e = held_over e
+      go true e = held_over_lem e
       go false e = held_past (o e)
 
 pub held_within : (n : ℕ) (held : List ℕ) (fill : ℕ) (over : Bool) → over ≡ false → fill ≤ n → take fill held ≡ held_line n held fill over

@@ -78,8 +78,8 @@ module _ (w : Widths) where
 
 -- a frame is of its sort, and says its numbers
 module _ (w : Widths) (k : Sort) (ns : List ℕ) (long : length ns ≡ length (w k)) where
-  frame_of : is_of w k (frame w k ns) ≡ true
-  frame_of = and_both _ _ (eq-eqb (length (frame w k ns)) (size_of w k) (omega (arith, written_size (w k) ns long))) (eq-eqb (sort_number k) (sort_number k) refl)
+  frame_of_lem : is_of w k (frame w k ns) ≡ true
+  frame_of_lem = and_both _ _ (eq-eqb (length (frame w k ns)) (size_of w k) (omega (arith, written_size (w k) ns long))) (eq-eqb (sort_number k) (sort_number k) refl)
 
   frame_says : numbers_in w k (frame w k ns) ≡ ns
   frame_says = said_written (w k) ns (sort_number k ∷ []) long
@@ -99,13 +99,13 @@ used_frames w j (n ∷ ns) = count_front (λ i. not (is_unused (get_or (n ∷ ns
 module _ {w : Widths} (l : Lawful w) where
   -- a frame that announces nothing
   entry_framed : (e : Entry) (ss : List Sort) (fs : List (List ℕ)) → framed_by w (S.Entry ∷ ss) (entry_frame w e ∷ fs) ≡ framed_by w ss fs
-  entry_framed e ss fs = ap (λ (t : Bool). t && framed_by w ss fs) (frame_of w S.Entry (entry_numbers e) (sym l.entry_long))
+  entry_framed e ss fs = ap (λ (t : Bool). t && framed_by w ss fs) (frame_of_lem w S.Entry (entry_numbers e) (sym l.entry_long))
 
   note_framed : (j : ℕ) (n : Note) (ss : List Sort) (fs : List (List ℕ)) → framed_by w (S.Note ∷ ss) (note_frame w j n ∷ fs) ≡ framed_by w ss fs
-  note_framed j n ss fs = ap (λ (t : Bool). t && framed_by w ss fs) (frame_of w S.Note (told_numbers j n) (sym l.note.long))
+  note_framed j n ss fs = ap (λ (t : Bool). t && framed_by w ss fs) (frame_of_lem w S.Note (told_numbers j n) (sym l.note.long))
 
   report_framed : (r : Report) (ss : List Sort) (fs : List (List ℕ)) → framed_by w (S.Report ∷ ss) (report_frame w r ∷ fs) ≡ framed_by w ss fs
-  report_framed r ss fs = ap (λ (t : Bool). t && framed_by w ss fs) (frame_of w S.Report (told_numbers r.who (note_of r)) (sym l.report.long))
+  report_framed r ss fs = ap (λ (t : Bool). t && framed_by w ss fs) (frame_of_lem w S.Report (told_numbers r.who (note_of r)) (sym l.report.long))
 
   -- frames of one sort that announce nothing
   each_framed : {A : Type 0} (k : Sort) (f : A → List ℕ) → ((x : A) (ss : List Sort) (fs : List (List ℕ)) → framed_by w (k ∷ ss) (f x ∷ fs) ≡ framed_by w ss fs)
@@ -137,7 +137,7 @@ module _ {w : Widths} (l : Lawful w) where
   -- what a server's frame announces is what follows it
   server_framed : {n j : ℕ} {s : Server} → ServerSound n j s → (ss : List Sort) (fs : List (List ℕ)) → framed_by w (S.Server ∷ ss) (server_frames w s ++ fs) ≡ framed_by w ss fs
   server_framed {s = s} x ss fs =
-      ap (λ (t : Bool). t && framed_by w (announced w S.Server (server_frame w s) ++ ss) (after ++ fs)) (frame_of w S.Server (server_numbers s) (sym l.server_long))
+      ap (λ (t : Bool). t && framed_by w (announced w S.Server (server_frame w s) ++ ss) (after ++ fs)) (frame_of_lem w S.Server (server_numbers s) (sym l.server_long))
       ∙ ap (λ (ns : List ℕ). announcing (byte_at ns 0) (byte_at ns 1) (byte_at ns 2)) (frame_says w S.Server (server_numbers s) (sym l.server_long))
       ∙ ap (λ (k : ℕ). announcing k (used_notes s.mail) q.len) entries
       ∙ ap (λ (k : ℕ). announcing (length (kept s.log)) k q.len) used
@@ -199,7 +199,7 @@ module _ (e : Edition) (l : Lawful e.widths) (b : e.number < byte) (c : Cluster)
       let ns = first_numbers w e.number c.count c.followers in
       let long = first_long w e.number c.count c.followers l.first in
       lines_shaped w (S.First ∷ []) (frames_bytes c f h e b l) ∙ ap (λ (x : List ℕ). framed_by w (S.First ∷ []) (x ∷ all)) (first_taken w e.number c.count c.followers)
-      ∙ ap (λ (t : Bool). t && framed_by w (announced w S.First (frame w S.First ns) ++ []) all) (frame_of w S.First ns long)
+      ∙ ap (λ (t : Bool). t && framed_by w (announced w S.First (frame w S.First ns) ++ []) all) (frame_of_lem w S.First ns long)
       ∙ ap (λ (ns : List ℕ). framed_by w (replicate (byte_at ns 1) S.Server ++ []) all) (frame_says w S.First ns long)
       ∙ ap (λ (k : ℕ). framed_by w (replicate k S.Server ++ []) all) (first_size w e.number c.count c.followers l.first ∙ sym (counted_long g)) ∙ servers_framed l (counted c) (all_count g)
 

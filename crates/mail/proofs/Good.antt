@@ -68,9 +68,9 @@ unused_is n h =
     let k = eqb-true n.len 0 (and_right (eqb n.last 0) _ h2) in
     λ i. record { term = t i; last = l i; len = k i }
 
-pub is_unused : (n : Note) → n ≡ zero_note → is_unused n ≡ true
+pub is_unused_lem : (n : Note) → n ≡ zero_note → is_unused n ≡ true
 unfolding is_unused
-is_unused n e = ap is_unused e
+is_unused_lem n e = ap is_unused e
 
 -- the note about server i is unused, or a used one
 abbrev pub NoteGood : ℕ → ℕ → Note → Type 0
@@ -83,7 +83,7 @@ module _ {count i : ℕ} {n : Note} where
 
   pub good_note : NoteGood count i n → note_ok count i n ≡ true
   unfolding note_ok
-  good_note g = ⊎_elim (λ e. or_left _ _ (is_unused n e)) (λ u. or_right (is_unused n) _ (good_used u)) g
+  good_note g = ⊎_elim (λ e. or_left _ _ (is_unused_lem n e)) (λ u. or_right (is_unused n) _ (good_used u)) g
 
 -- ---- the queue
 

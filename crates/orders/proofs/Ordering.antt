@@ -30,6 +30,6 @@ module _ (text : List ℕ) where
       unfolding orders_in
       no_feed e = rw (ne_eqb (length text) 0 some, eq-eqb (length text) 25 long, e)
 
-      pub a_line : eqb (get_or text order_chars 0) line_feed ≡ true → framed order_bytes known_in Unknown (take order_chars text) ≡ orders_in text
+      pub a_line_lem : eqb (get_or text order_chars 0) line_feed ≡ true → framed order_bytes known_in Unknown (take order_chars text) ≡ orders_in text
       unfolding orders_in
-      a_line e = rw (ne_eqb (length text) 0 some, eq-eqb (length text) 25 long, e)
+      a_line_lem e = rw (ne_eqb (length text) 0 some, eq-eqb (length text) 25 long, e)

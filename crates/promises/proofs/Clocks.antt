@@ -12,7 +12,7 @@ use borrow.Author.Tests.{ltb-true, leb-true}
 use Rattle.base.proofs.Greatest.{greatest_above, greatest_below}
 use Rattle.clock.specs.declared.Time.{Time}
 use Rattle.clock.specs.Times.{later_of}
-use Rattle.clock.proofs.Order.{not_before, later_either}
+use Rattle.clock.proofs.Order.{not_before_lem, later_either}
 use Rattle.clock.proofs.Ticks.{tick_p}
 use Rattle.server_log.specs.Entries.{applied_time, entry_at}
 use Rattle.server_log.specs.Logs.{live}
@@ -72,7 +72,7 @@ record ClocksKept (m : ℕ) (c d : Cluster) : Type 0 where
 
 -- an applied time is not past the cluster time
 applied_p : {s : Server} → ServerGood s → (applied_time (live s.log)).p ≤ s.head.time.p
-applied_p {s} g = (not_before (applied_time (live s.log)) s.head.time g.last_time).le
+applied_p {s} g = (not_before_lem (applied_time (live s.log)) s.head.time g.last_time).le
 
 module _ (c : Cluster) (g : Good c) (m : ℕ) (walls : (i : ℕ) → i < server_count c → (server_at c i).head.wall + most_ahead ≤ m) (times : (i : ℕ) → (server_at c i).head.time.p ≤ m) where
   same : (i : ℕ) → ClockKept m (server_at c i) (server_at c i)
@@ -145,13 +145,13 @@ module _ (c : Cluster) (g : Good c) (m : ℕ) (walls : (i : ℕ) → i < server_
   done_kept (TakesReport a) no_start k = back a (take_done (server_at c a)) (same a)
 
   step_kept : (s : Step) → (is_start s ≡ true → (step_of c s).answer ≢ Done) → ClocksKept m c (step_of c s).cluster
-  step_kept s no_start = ⊎_elim is_done (λ d. by d.is (record { count = refl; each = same })) (step_cases c s)
+  step_kept s no_start = ⊎_elim is_done_lem (λ d. by d.is (record { count = refl; each = same })) (step_cases c s)
     where
       by : {o : Outcome} → step_of c s ≡ o → ClocksKept m c o.cluster → ClocksKept m c (step_of c s).cluster
       by e x = subst (λ (o : Outcome). ClocksKept m c o.cluster) (sym e) x
 
-      is_done : StepDone c s → ClocksKept m c (step_of c s).cluster
-      is_done d = by d.is (done_kept s (λ q a. no_start q (ap (λ (o : Outcome). o.answer) d.is ∙ a)) d.clear)
+      is_done_lem : StepDone c s → ClocksKept m c (step_of c s).cluster
+      is_done_lem d = by d.is (done_kept s (λ q a. no_start q (ap (λ (o : Outcome). o.answer) d.is ∙ a)) d.clear)
 
 -- ---- runs
 
@@ -200,7 +200,7 @@ module _ {z : Opening} where
       let g = (good c N.fits N.formed).counted i l in
       record {
         cluster_time = t i;
-        entries = λ n p q. le_trans (le_trans (not_before (entry_at (live s.log) n).time (applied_time (live s.log)) (not_after_last g.log.order n p q)).le (applied_p g)) (t i);
+        entries = λ n p q. le_trans (le_trans (not_before_lem (entry_at (live s.log) n).time (applied_time (live s.log)) (not_after_last g.log.order n p q)).le (applied_p g)) (t i);
       }
 
 pub clocks_held : ClocksPromised

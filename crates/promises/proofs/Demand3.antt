@@ -30,7 +30,7 @@ use Rattle.safety.proofs.Quorum.{majority_count}
 use Rattle.safety.proofs.Time.{stamp_before, not_before_stamp}
 use Rattle.safety.proofs.Joins.{commit_within}
 use Rattle.safety.proofs.Demand3.{demand3}
-use Rattle.safety.proofs.Views.{fresh_seen, fits_time, same_entry, holds_beginning}
+use Rattle.safety.proofs.Views.{fresh_seen, fits_time, same_entry_lem, holds_beginning}
 use Rattle.safety.proofs.Stepped.{quorums, Now, never_9}
 use Rattle.promises.proofs.Turns.{led, reached}
 use Rattle.promises.proofs.Answered.{Answered, answered}
@@ -84,7 +84,7 @@ module _ {z : Opening} {x y : Cluster} (X : Now z x) (Y : Now z y) (w : Walk (qu
         covered = S.read.within;
         key = S.read.key;
         value = value_of (sym (entry_at_take t.head.commit p (live t.log) S.read.within)) ∙ sym (rw f at (latest_found e.key (covered t))) ∙ a.value;
-        same = λ z. same_entry (entry_of y q p) e (fits_time t.log (log_y q hq) p) (fits_time (server_at x s).log log_x k) (S.same z);
+        same = λ z. same_entry_lem (entry_of y q p) e (fits_time t.log (log_y q hq) p) (fits_time (server_at x s).log log_x k) (S.same z);
         newer = λ l. stamp_before e.time (entry_of y q p).time (fits_time t.log (log_y q hq) p) (S.newer l);
       }
 

@@ -36,8 +36,8 @@ use Rattle.promises.specs.Longest.{records_of, longest_covered, HoldsAll}
 use Rattle.promises.specs.Honest.{AnsweredWrite, Made, ends, goes, writes, reads, acknowledges, HonestPromised}
 use Rattle.promises.proofs.Turns.{InTurn, next}
 use Rattle.promises.proofs.Longest.{longest_beginning}
-use Rattle.promises.proofs.ReadRecords.{GoodLog, read_obeys}
-use Rattle.promises.proofs.WriteRecords.{Stood, stood_on, wrote, write_obeys}
+use Rattle.promises.proofs.ReadRecords.{GoodLog, read_obeys_lem}
+use Rattle.promises.proofs.WriteRecords.{Stood, stood_on, wrote, write_obeys_lem}
 
 -- ---- records that obey
 
@@ -82,9 +82,9 @@ module _ {z : Opening} {es : List Entry} (o : GoodLog es) where
       go v (inr k) = stood_on t (stood v k)
   made_obey (reads {c = c} {rs = rs} q key asked session value position time told asks m) N h begins stood obey =
       made_obey m N h begins stood
-      (obey_more es rs _ obey (read_obeys N o (begins c (Among.head refl)) q key asked session value position time rs told asks))
+      (obey_more es rs _ obey (read_obeys_lem N o (begins c (Among.head refl)) q key asked session value position time rs told asks))
   made_obey (acknowledges {c = c} {rs = rs} q session w k told m) N h begins stood obey =
-      made_obey m N h begins stood (obey_more es rs _ obey (write_obeys N (begins c (Among.head refl)) q w (stood w k) told session rs))
+      made_obey m N h begins stood (obey_more es rs _ obey (write_obeys_lem N (begins c (Among.head refl)) q w (stood w k) told session rs))
 
 -- a log that could be held is in order
 good_log : {es : List Entry} {g : Committed} → HoldsAll es g → GoodLog (entries_of g)

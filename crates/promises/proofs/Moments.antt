@@ -19,7 +19,7 @@ use Rattle.reads.specs.MajorityRead.{covered}
 use Rattle.wholes.specs.Starts.{Opening, fresh_of}
 use Rattle.safety.proofs.Joins.{commit_within, matching_later}
 use Rattle.safety.proofs.Demand3.{demand3}
-use Rattle.safety.proofs.Views.{fresh_seen, fits_time, same_entry, first_same}
+use Rattle.safety.proofs.Views.{fresh_seen, fits_time, same_entry_lem, first_same}
 use Rattle.safety.proofs.Stepped.{Now}
 use Rattle.promises.specs.Runs.{Event, happens, Onward}
 use Rattle.promises.specs.Demand3.{entry_of}
@@ -92,7 +92,7 @@ module _ {z : Opening} where
     pub one_entry : (k : ℕ) → k ≤ length_of (server_at x s).log → k ≤ length_of (server_at y q).log → (entry_of x s k).term ≡ (entry_of y q k).term
         → entry_of x s k ≡ entry_of y q k
     one_entry k hx hy e =
-        same_entry (entry_of x s k) (entry_of y q k) (fits_time (server_at x s).log (log_fits T.earlier s hs) k)
+        same_entry_lem (entry_of x s k) (entry_of y q k) (fits_time (server_at x s).log (log_fits T.earlier s hs) k)
         (fits_time (server_at y q).log (log_fits T.later q hq) k)
         (matching_later (fresh_seen z.servers z.followers) T.earlier.walk T.walk s q k hx hy e k (omega arith))
 

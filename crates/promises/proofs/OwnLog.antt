@@ -15,7 +15,7 @@ use Rattle.clock.specs.Times.{limit, zero_time}
 use Rattle.server_log.specs.declared.Entry.{Entry}
 use Rattle.server_log.specs.Entries.{entry_at}
 use Rattle.server_log.specs.Logs.{live}
-use Rattle.server_log.proofs.Common.{is_beginning}
+use Rattle.server_log.proofs.Common.{is_beginning_lem}
 use Rattle.server_log.proofs.Live.{entry_at_take}
 use Rattle.server_log.proofs.Orderly.{Orderly, in_order_lem, orderly_first}
 use Rattle.server_log.proofs.Tidy.{tidy_highest}
@@ -82,6 +82,6 @@ module _ {z : Opening} {c : Cluster} (N : Now z c) (i : ℕ) (l : i < z.servers)
   held =
       record {
         could_hold = columns_hold es short order;
-        begins = rw (columns_same es) (is_beginning (record { long = omega arith; same = take-length es }));
+        begins = rw (columns_same es) (is_beginning_lem (record { long = omega arith; same = take-length es }));
         none_at_zero = rw (columns_same es) not_zero;
       }

@@ -132,12 +132,12 @@ module _ {z : Opening} {c : Cluster} (N : Now z c) {es : List Entry} (o : GoodLo
       ap (λ (k : ℕ). (entry_at (covered s) k).time) (covered_long N q)
       ∙ ap (λ (e : Entry). e.time) (entry_at_take s.head.commit s.head.commit (live s.log) (omega arith))
 
-  pub read_obeys : (q key : ℕ) (asked : Time) (session value position : ℕ) (time : Time) (rs : List PhoneRecord)
+  pub read_obeys_lem : (q key : ℕ) (asked : Time) (session value position : ℕ) (time : Time) (rs : List PhoneRecord)
       → (step_of c (MajorityRead q key asked)).answer ≡ A.Value value time → AsksLatest rs session asked
       → let r = record_of_read session key value position time in
       (record_in_range r ≡ true) × (obeys es rs r ≡ true)
   unfolding record_in_range obeys read_obeys
-  read_obeys q key asked session value position time rs told asks =
+  read_obeys_lem q key asked session value position time rs told asks =
       let a = answered c N.fits q key asked value time told in
       let b = within q (omega (arith, ltb-true q (server_count c) a.below, all_counted N)) in
       let t : applied_time (covered (server_at c q)) ≡ time = applied_is q ∙ a.time in (

@@ -30,7 +30,7 @@ use Rattle.safety.specs.NewestSeen.{Answers}
 use Rattle.safety.specs.View.{view}
 use Rattle.promises.specs.Demand3.{entry_of, first_of}
 use Rattle.promises.specs.Newest.{Reading, reading_step, reading_answer}
-use Rattle.safety.proofs.Views.{in_range}
+use Rattle.safety.proofs.Views.{in_range_lem}
 
 -- kind 14 at a, answered with the reading's position and term
 pub record Asked (x : Cluster) (a : ℕ) (r : Reading) : Type 0 where
@@ -77,7 +77,7 @@ read_of y f r told =
     let below : r.server < y.count = omega (arith, ltb-true r.server (server_count y) d.clear.0) in
     let key = leb-true r.key highest_key k.0 in
     let within = leb-true r.position (length es) (and_left _ _ k.1.1.1.1.0) in
-    let few = in_range y r.server d.clear.0 in
+    let few = in_range_lem y r.server d.clear.0 in
     let position = leb-true r.position highest_position (and_left _ _ (and_right (leb 1 r.position) _ k.1.0)) in
     let term : (server_at y r.server).head.term ≡ r.term = eqb-true _ _ k.1.1.1.0 in
     record {

@@ -153,9 +153,9 @@ module _ {z : Opening} {c : Cluster} (N : Now z c) {es : List Entry}
       ∙ sym (one_entry S.turn S.server q S.counted R.below w.position S.long (omega (arith, R.reached, within N q)) (ap (λ (d : Entry). d.term) S.entry ∙ sym R.term_is))
       ∙ S.entry
 
-  pub write_obeys : (session : ℕ) (rs : List PhoneRecord) → (record_in_range (record_of_write session w) ≡ true) × (obeys es rs (record_of_write session w) ≡ true)
+  pub write_obeys_lem : (session : ℕ) (rs : List PhoneRecord) → (record_in_range (record_of_write session w) ≡ true) × (obeys es rs (record_of_write session w) ≡ true)
   unfolding record_in_range obeys write_obeys
-  write_obeys session rs =
+  write_obeys_lem session rs =
       let R = reached_it in (
         and_both _ _ (le-leb w.key highest_key S.key) refl,
         and_both _ _ (le-leb 1 w.position R.from_one)

@@ -64,9 +64,9 @@ pub hex_line : (bs rest : List ℕ) → lines (hex_of bs ++ (line_feed ∷ rest)
 hex_line [] rest = refl
 hex_line (b ∷ bs) rest = rw (no_feed (b / radix), no_feed (b % radix), hex_line bs rest)
 
-answer_line : (a : Answer) (rest : List ℕ) → lines (line_of a ++ rest) ≡ write_answer a ∷ lines rest
+answer_line_lem : (a : Answer) (rest : List ℕ) → lines (line_of a ++ rest) ≡ write_answer a ∷ lines rest
 unfolding line_of
-answer_line a rest = ap lines (append_assoc (write_answer a) (line_feed ∷ []) rest) ∙ hex_line (bytes_of_telling (telling_of a)) rest
+answer_line_lem a rest = ap lines (append_assoc (write_answer a) (line_feed ∷ []) rest) ∙ hex_line (bytes_of_telling (telling_of a)) rest
 
 no_line : read_answer [] ≢ A.Telling (Refusing BelowCommitPoint)
 unfolding framed
@@ -75,9 +75,9 @@ no_line e = let z : ◌≡◌ {A = ℕ} 0 1 = cc in omega arith
 lines_written : (c : Cluster) → Came c → (ls : List (List ℕ)) (i : ℕ) → read_answer (get_or (lines (answers_to c ls)) i []) ≢ A.Telling (Refusing BelowCommitPoint)
 lines_written c m [] i = no_line
 lines_written c m (l ∷ ls) zero =
-    rw (answer_line (answer_to c l).answer (answers_to (answer_to c l).cluster ls)) (λ e. line_9 c l m (written_9 _ (written_read_telling _ (Refusing BelowCommitPoint) e)))
+    rw (answer_line_lem (answer_to c l).answer (answers_to (answer_to c l).cluster ls)) (λ e. line_9 c l m (written_9 _ (written_read_telling _ (Refusing BelowCommitPoint) e)))
 lines_written c m (l ∷ ls) (suc i) =
-    rw (answer_line (answer_to c l).answer (answers_to (answer_to c l).cluster ls)) (lines_written (answer_to c l).cluster (came_line c l m) ls i)
+    rw (answer_line_lem (answer_to c l).answer (answers_to (answer_to c l).cluster ls)) (lines_written (answer_to c l).cluster (came_line c l m) ls i)
 
 pub never_9_written : Never9Written
 never_9_written c m text = lines_written c m (lines text)

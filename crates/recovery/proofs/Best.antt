@@ -115,9 +115,9 @@ leads_before c i k e v =
     let both : (votes c.followers i && not_behind (server_at c i) (server_at c k)) ≡ true = rw v at e in
     record { votes_too = and_left _ _ both; not_ahead = not_behind_lem _ _ (and_right (votes c.followers i) _ both) }
 
-may_lead : (c : Cluster) (i k : ℕ) → (votes c.followers k ≡ true → Before c i k) → may_lead c i k ≡ true
+may_lead_lem : (c : Cluster) (i k : ℕ) → (votes c.followers k ≡ true → Before c i k) → may_lead c i k ≡ true
 unfolding may_lead
-may_lead c i k h = go (votes c.followers k) refl
+may_lead_lem c i k h = go (votes c.followers k) refl
   where
     go : (b : Bool) → votes c.followers k ≡ b → (not b || (votes c.followers i && not_behind (server_at c i) (server_at c k))) ≡ true
     go true e = and_both _ _ (h e).votes_too (is_not_behind _ _ (h e).not_ahead)
@@ -136,9 +136,9 @@ behind c i k e v = go (votes c.followers k) refl (not_behind (server_at c i) (se
 pub by_log : (c : Cluster) → Order (may_lead c)
 by_log c =
     record {
-      itself = λ i. may_lead c i i (λ v. record { votes_too = v; not_ahead = record { le = omega arith; eq = λ e. omega arith } });
-      total = λ i j e. may_lead c j i (behind c i j e);
-      along = λ i j k p q. may_lead c i k
+      itself = λ i. may_lead_lem c i i (λ v. record { votes_too = v; not_ahead = record { le = omega arith; eq = λ e. omega arith } });
+      total = λ i j e. may_lead_lem c j i (behind c i j e);
+      along = λ i j k p q. may_lead_lem c i k
           (λ v. let y = leads_before c j k q v in
           let x = leads_before c i j p y.votes_too in
           record { votes_too = x.votes_too; not_ahead = not_ahead_trans x.not_ahead y.not_ahead });

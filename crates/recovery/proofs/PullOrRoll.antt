@@ -14,7 +14,7 @@ use Rattle.base.proofs.Facts.{lt_or_le}
 use Rattle.server_log.specs.declared.Entry.{Entry}
 use Rattle.server_log.specs.Entries.{entry_at, same_entry, last_term, equal_at, is_beginning}
 use Rattle.server_log.specs.Logs.{length_of}
-use Rattle.server_log.proofs.Common.{Beginning, beginning, beginning_at, is_beginning}
+use Rattle.server_log.proofs.Common.{Beginning, beginning, beginning_at, is_beginning_lem}
 use Rattle.server_log.proofs.Equal.{same_entry_refl}
 use Rattle.cluster.specs.declared.Server.{Server}
 use Rattle.cluster.specs.declared.Cluster.{Cluster}
@@ -78,7 +78,7 @@ module _ {n f : ℕ} {c : Cluster} (h : Stands n f c) (i a : ℕ) (li : i < n) (
   other_some e = ⊎_elim (λ l. l) (λ l. not_both (is_beginning (held_by c i) (held_by c a)) (empty l) e) (lt_or_le 0 (length_of s.log))
     where
       empty : length_of s.log ≤ 0 → is_beginning (held_by c i) (held_by c a) ≡ true
-      empty l = is_beginning (record { long = omega arith; same = none (held_by c i) l })
+      empty l = is_beginning_lem (record { long = omega arith; same = none (held_by c i) l })
         where
           none : (es : List Entry) → length es ≤ 0 → take (length es) (held_by c a) ≡ es
           none [] k = refl

@@ -42,7 +42,7 @@ use Rattle.safety.specs.Steps.{stop}
 use Rattle.safety.specs.View.{seen_entry}
 use Rattle.safety.proofs.Joins.{matching_later}
 use Rattle.safety.proofs.Stepped.{Now, now_next, never_9}
-use Rattle.safety.proofs.Views.{fresh_seen, fits_time, same_entry}
+use Rattle.safety.proofs.Views.{fresh_seen, fits_time, same_entry_lem}
 use Rattle.promises.specs.Runs.{comes, Onward}
 use Rattle.promises.proofs.Texts.{line_is}
 use Rattle.promises.proofs.Turns.{led, reached}
@@ -64,7 +64,7 @@ use Rattle.recovery.proofs.Planned.{Ended, gets_ended}
 same_live : (g k : Log) → FitsLog g → FitsLog k → length_of g ≡ length_of k → Agree (length_of k) (λ n. seen_entry (entry_at (live g) n)) (λ n. seen_entry (entry_at (live k) n)) → live g ≡ live k
 same_live g k fg fk e h =
     sym (take-length (live g)) ∙ ap (λ (n : ℕ). take n (live g)) e
-    ∙ same_first (length_of k) (live g) (live k) (omega arith) (omega arith) (λ n l. same_entry _ _ (fits_time g fg n) (fits_time k fk n) (h n l)) ∙ take-length (live k)
+    ∙ same_first (length_of k) (live g) (live k) (omega arith) (omega arith) (λ n l. same_entry_lem _ _ (fits_time g fg n) (fits_time k fk n) (h n l)) ∙ take-length (live k)
 
 module _ {z : Opening} {c : Cluster} (now : Now z c) where
   level_same : (i j : ℕ) → i < z.servers → j < z.servers → length (held_by c i) ≡ length (held_by c j)

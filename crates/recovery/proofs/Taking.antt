@@ -74,9 +74,9 @@ module _ {m f : ℕ} {a t : ℕ} {es : List Entry} (task : Task m a t es) where
     oldest : oldest_of s ≡ report
     oldest = h.reports 0 (omega arith) ∙ ap (λ (x : ℕ). report_from (other a x) t es) (omega arith)
 
-    gives_way : gives_way (note_at s.mail who) (note_of report) ≡ true
+    gives_way_lem : gives_way (note_at s.mail who) (note_of report) ≡ true
     unfolding gives_way
-    gives_way = rw (h.unnoted j (omega arith) l) (or_left _ _ (lt-ltb 0 t task.from_one))
+    gives_way_lem = rw (h.unnoted j (omega arith) l) (or_left _ _ (lt-ltb 0 t task.from_one))
 
     slots : length s.mail.notes ≡ note_slots
     slots = (h.leads.stands.fits.each a (omega (arith, h.leads.stands.few, task.below))).mail.slots
@@ -89,12 +89,12 @@ module _ {m f : ℕ} {a t : ℕ} {es : List Entry} (task : Task m a t es) where
 
     note_new : note_at new who ≡ note_from t es
     note_new =
-        noted_is who ∙ ap (λ (x : Mail). note_at x who) (noted_new s.mail report gives_way)
+        noted_is who ∙ ap (λ (x : Mail). note_at x who) (noted_new s.mail report gives_way_lem)
         ∙ get_or-set_same s.mail.notes who (note_of report) zero_note (omega (arith, slots, other_below a j m l, h.leads.stands.few))
 
     note_old : (k : ℕ) → k ≢ who → note_at new k ≡ note_at s.mail k
     note_old k ne =
-        noted_is k ∙ ap (λ (x : Mail). note_at x k) (noted_new s.mail report gives_way)
+        noted_is k ∙ ap (λ (x : Mail). note_at x k) (noted_new s.mail report gives_way_lem)
         ∙ get_or-set_other s.mail.notes who k (note_of report) zero_note ne
 
     queue_is : new.queue ≡ oldest_taken s.mail.queue
@@ -122,8 +122,8 @@ module _ {m f : ℕ} {a t : ℕ} {es : List Entry} (task : Task m a t es) where
     unfolding row_of delivered
     done_is = ap (delivered d) kept
 
-    taken_one : Stands (suc m) f d → Taking m f a t es (suc j) d
-    taken_one stands =
+    taken_one_lem : Stands (suc m) f d → Taking m f a t es (suc j) d
+    taken_one_lem stands =
         record {
           leads = record {
             stands = stands;
@@ -146,4 +146,4 @@ module _ {m f : ℕ} {a t : ℕ} {es : List Entry} (task : Task m a t es) where
     pub takes_steps : Steps (Taking m f a t es (suc j)) c (TakesReport a)
     takes_steps =
         steps_clear h.leads.stands (TakesReport a) (omega (arith, h.leads.stands.few, task.below)) refl clear
-        (λ x. subst (Taking m f a t es (suc j)) (sym done_is) (taken_one (subst (Stands (suc m) f) done_is x)))
+        (λ x. subst (Taking m f a t es (suc j)) (sym done_is) (taken_one_lem (subst (Stands (suc m) f) done_is x)))

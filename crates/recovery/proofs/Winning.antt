@@ -101,16 +101,16 @@ module _ {n f : ℕ} {a : ℕ} {c : Cluster} (h : Ready n f a c) where
       by_vote i k true v = or_right (not (member set i)) _ (and_both _ _ (le-leb (server_at c i).head.term (server_at c a).head.term (h.top i k)) (h.ahead i k v))
       by_vote i k false v = or_left _ _ (ap not (voting_member n f few i k ∙ v))
 
-  are_voters : are_voters c a set ≡ true
+  are_voters_lem : are_voters c a set ≡ true
   unfolding are_voters
-  are_voters =
+  are_voters_lem =
       rw (counts_n h.stands, h.stands.follows)
       (and_both _ _ (lt-ltb a n h.below) (and_both _ _ h.voter (and_both _ _ (voting_within n f few) (voting_apart n f few))))
 
   elect_clear : Clear (rules_of c (Elect a set))
   unfolding row_of
   elect_clear = (
-    are_voters,
+    are_voters_lem,
     (
       rw (counts_n h.stands, h.stands.follows) (voting_most n f few (some_vote h.stands)),
       (voting_member n f few a h.below ∙ h.voter, (all_may, (lt-ltb (server_at c a).head.term limit h.term, tt))),

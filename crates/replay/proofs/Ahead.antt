@@ -184,9 +184,9 @@ at_feed {c = c} u o e out' h room f q b o' = by_line e o out' u.along h room f (
 module _ {s : Session} {text out₀ out : List ℕ} {c : Cluster} {r : Reader} {w i : ℕ} (a : Along s text out₀ out (record { cluster = c; reader = r }) w i)
     (slots : length r.held ≡ width) (h : i < length text) (room : answer_line ≤ length out₀ - w) where
   -- a whole line
-  whole_line : (t : AnyStep) (o : Outcome) (e : Session) (out' : List ℕ) → There r text i t → o ≡ respond c (Step t) → e ≡ begun o.cluster
+  whole_line_lem : (t : AnyStep) (o : Outcome) (e : Session) (out' : List ℕ) → There r text i t → o ≡ respond c (Step t) → e ≡ begun o.cluster
       → out' ≡ placed out w (line_of o.answer) → Along s text out₀ out' e (w + answer_line) (i + (step_chars + 1))
-  whole_line t o e out' there p b o' =
+  whole_line_lem t o e out' there p b o' =
       let n : i + step_chars + 1 ≡ i + (step_chars + 1) = omega arith in
       subst (λ (m : ℕ). Along s text out₀ out' e (w + answer_line) m) n
       (at_feed (by_bytes step_chars (omega (arith, there.inside)) room (plain there) a (empty_stands there.fresh slots)) o e out' there.inside room there.feed
@@ -214,7 +214,7 @@ module _ {s : Session} {text out₀ out : List ℕ} {c : Cluster} {r : Reader} {
       go (Step t) y v =
           let same : Line (Step t) ≡ Line read = sym (ap (λ (m : Next). m.came) v) ∙ k in
           subst (λ (m : Next). Along s text out₀ out' e (w + answer_line) (i + m.took)) (sym v)
-          (whole_line t o e out' (whole_there r text i t y) (let j : read ≡ Step t = cc in q ∙ ap (respond c) j) b o')
+          (whole_line_lem t o e out' (whole_there r text i t y) (let j : read ≡ Step t = cc in q ∙ ap (respond c) j) b o')
       go NoFrame y v =
           let f = is_line r (get_or text i 0) read (sym (ap (λ (m : Next). m.came) v) ∙ k) in
           subst (λ (m : Next). Along s text out₀ out' e (w + answer_line) (i + m.took)) (sym v)

@@ -78,9 +78,9 @@ says_append s (b ∷ x) y =
     ap (λ (l : List ℕ). said s b ++ l) (says_append (after s b) x y) ∙ sym (append_assoc (said s b) (says (after s b) x) (says (runs (after s b) x) y))
 
 -- pieces, all in turn
-runs_all : (s : Session) (xs : List (List ℕ)) → runs_all s xs ≡ runs s (together xs)
-runs_all s [] = refl
-runs_all s (x ∷ xs) = runs_all (runs s x) xs ∙ sym (runs_append s x (together xs))
+runs_all_lem : (s : Session) (xs : List (List ℕ)) → runs_all s xs ≡ runs s (together xs)
+runs_all_lem s [] = refl
+runs_all_lem s (x ∷ xs) = runs_all_lem (runs s x) xs ∙ sym (runs_append s x (together xs))
 
 says_all_lem : (s : Session) (xs : List (List ℕ)) → says_all s xs ≡ says s (together xs)
 says_all_lem s [] = refl
@@ -90,7 +90,7 @@ says_all_lem s (x ∷ xs) = ap (λ (l : List ℕ). says s x ++ l) (says_all_lem 
 pub any_pieces : (s : Cluster) (xs : List (List ℕ)) → says_all (begun s) xs ++ ending (runs_all (begun s) xs) ≡ answers s (together xs)
 any_pieces s xs =
     ap (λ (l : List ℕ). l ++ ending (runs_all (begun s) xs)) (says_all_lem (begun s) xs)
-    ∙ ap (λ (d : Session). says (begun s) (together xs) ++ ending d) (runs_all (begun s) xs) ∙ whole s (together xs)
+    ∙ ap (λ (d : Session). says (begun s) (together xs) ++ ending d) (runs_all_lem (begun s) xs) ∙ whole s (together xs)
 
 pub line_long : (a : Answer) → length (line_of a) ≡ answer_line
 unfolding line_of
@@ -123,4 +123,4 @@ whole_record s text =
 
 -- for any pieces
 pub any_pieces_record : (s : Cluster) (xs : List (List ℕ)) → ended (runs_all (begun s) xs) ≡ leaves s (together xs)
-any_pieces_record s xs = ap ended (runs_all (begun s) xs) ∙ whole_record s (together xs)
+any_pieces_record s xs = ap ended (runs_all_lem (begun s) xs) ∙ whole_record s (together xs)

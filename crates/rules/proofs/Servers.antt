@@ -29,7 +29,7 @@ use Rattle.server_log.specs.Logs.{live, length_of, appended}
 use Rattle.server_log.specs.Rows.{zero_row, latest_after, latest_over, between}
 use Rattle.server_log.specs.Ranges.{FitsEntry, FitsLog, FitsLatest, FitsRows}
 use Rattle.server_log.proofs.Common.{common_le, common_first, rolled_is}
-use Rattle.server_log.proofs.Equal.{equal_at}
+use Rattle.server_log.proofs.Equal.{equal_at_lem}
 use Rattle.server_log.proofs.Orderly.{Writing, LogGood}
 use Rattle.server_log.proofs.Positions.{length_more, last_joined}
 use Rattle.server_log.proofs.Tidy.{tidy_highest, live_joined, long_joined}
@@ -198,7 +198,7 @@ module _ {n i j : ℕ} {s t : Server} (h : ServerSound n i s) (k : ServerSound n
       -- and a position of the own log
       reached : (b : Bool) → (ltb s.head.commit t.head.commit && equal_at (live s.log) (live t.log) t.head.commit) ≡ b → cond b t.head.commit s.head.commit ≤ length_of s.log
       reached true e =
-          (equal_at (live s.log) (live t.log) t.head.commit (and_right (ltb s.head.commit t.head.commit) _ e)).left
+          (equal_at_lem (live s.log) (live t.log) t.head.commit (and_right (ltb s.head.commit t.head.commit) _ e)).left
       reached false e = h.good.commit_point
 
   -- a log that begins as the own one up to the own commit point, and a row that has its latest values
@@ -253,7 +253,7 @@ module _ {n i j : ℕ} {s t : Server} (h : ServerSound n i s) (k : ServerSound n
           → entry_at (live s.log) (length_of s.log) ≡ entry_at (live t.log) (length_of s.log)
       agree e p =
           ⊎_elim (λ z. absurd (omega (arith, eqb-true (length_of s.log) 0 z)))
-          (λ q. (equal_at (live s.log) (live t.log) (length_of s.log) q).same) (or_cases (eqb (length_of s.log) 0) _ e)
+          (λ q. (equal_at_lem (live s.log) (live t.log) (length_of s.log) q).same) (or_cases (eqb (length_of s.log) 0) _ e)
 
   -- a rollback's log is the other server's
   pub rolled_sound : Clear (roll_rules s t) → ServerSound n i (rolled_of s t)

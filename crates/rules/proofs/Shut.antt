@@ -121,11 +121,11 @@ echoing_differs p h = record { from = fresh; takes = election; differs = same }
 
 -- ---- the four programs
 
-pub refuses_each : (r : Refusal) → Differs (refuses_each r)
-refuses_each r = refusing_differs (refuses_each r) (λ c s. refl)
+pub refuses_each_lem : (r : Refusal) → Differs (refuses_each r)
+refuses_each_lem r = refusing_differs (refuses_each r) (λ c s. refl)
 
-pub says_one : (a : Answer) → Differs (says_one a)
-says_one a = unvarying_differs (says_one a) (telling_of a) (λ c s. refl)
+pub says_one_lem : (a : Answer) → Differs (says_one a)
+says_one_lem a = unvarying_differs (says_one a) (telling_of a) (λ c s. refl)
 
 pub leaves_all_lem : Differs leaves_all
 leaves_all_lem = echoing_differs leaves_all (λ c s w. refl)
@@ -135,5 +135,5 @@ echoed : (c : Cluster) (s : Step) → well_formed c ≡ true → (echoes_later c
 unfolding well_formed
 echoed c s w = rw (ne_eqb c.count 0 (λ z. omega (arith, (size_good {f = c.followers} (and_left _ _ w)).at_least_two))) refl
 
-pub echoes_later : Differs echoes_later
-echoes_later = echoing_differs echoes_later echoed
+pub echoes_later_lem : Differs echoes_later
+echoes_later_lem = echoing_differs echoes_later echoed

@@ -42,8 +42,8 @@ module _ {v : Seen} {L : Logs} (c : Cuts v L) where
   last_shown : (i : ℕ) → L i (v i).len ≡ (v i).log (v i).len
   last_shown i = c.cut i (v i).len (omega (arith, c.covered i, c.within i)) (omega arith)
 
-  last_term : (i : ℕ) → last_term_seen (wholes v L i) ≡ last_term_seen (v i)
-  last_term i = term_of (last_shown i)
+  last_term_lem : (i : ℕ) → last_term_seen (wholes v L i) ≡ last_term_seen (v i)
+  last_term_lem i = term_of (last_shown i)
 
   cut_settles : (i k : ℕ) → Settles v i k → Settles (wholes v L) i k
   cut_settles i k (stays e) = stays e
@@ -71,7 +71,7 @@ module _ {v : Seen} {L : Logs} (c : Cuts v L) where
         record {
           quorum = h.quorum;
           low = h.low;
-          ahead = λ i m. rw (last_term i, last_term a) (h.ahead i m);
+          ahead = λ i m. rw (last_term_lem i, last_term_lem a) (h.ahead i m);
           voted =
               λ i m.
               record {
@@ -135,4 +135,4 @@ module _ {v : Seen} {L : Logs} (c : Cuts v L) where
   pub cut_tells : {m : Told} {r : ReportSeen} → Tells m v r → Tells m (wholes v L) r
   cut_tells (before p e) = before p e
   cut_tells (unused e) = unused e
-  cut_tells {r = r} (own o) = own (record { term = o.term; last = o.last ∙ sym (last_term r.who); len = o.len })
+  cut_tells {r = r} (own o) = own (record { term = o.term; last = o.last ∙ sym (last_term_lem r.who); len = o.len })

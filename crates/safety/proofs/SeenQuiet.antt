@@ -8,7 +8,7 @@ use lib.Dec.{ltb}
 use borrow.Author.Tests.{ltb-true, ltb-false, not-true}
 use Rattle.base.proofs.Bools.{and_left, and_right, not_both}
 use Rattle.clock.specs.declared.Time.{Time}
-use Rattle.server_log.proofs.Equal.{equal_at}
+use Rattle.server_log.proofs.Equal.{equal_at_lem}
 use Rattle.cluster.specs.declared.Server.{Server}
 use Rattle.cluster.specs.declared.Cluster.{Cluster}
 use Rattle.cluster.specs.Ranges.{Fits}
@@ -67,7 +67,7 @@ heard_settles c a b = go (takes_commit (server_at c a) (server_at c b)) refl
     go : (x : Bool) → takes_commit (server_at c a) (server_at c b) ≡ x → Settles (view c) a (cond x (server_at c b).head.commit (server_at c a).head.commit)
     go true e =
         let l = ltb-true (server_at c a).head.commit (server_at c b).head.commit (and_left _ _ e) in
-        let q = equal_at _ _ (server_at c b).head.commit (and_right (ltb (server_at c a).head.commit (server_at c b).head.commit) _ e) in
+        let q = equal_at_lem _ _ (server_at c b).head.commit (and_right (ltb (server_at c a).head.commit (server_at c b).head.commit) _ e) in
         hears b refl (omega arith) q.left (ap seen_entry q.same)
     go false e = stays refl
 

@@ -15,7 +15,7 @@ use Rattle.server_log.specs.declared.rows.Latest.{Latest}
 use Rattle.server_log.specs.Entries.{entry_at, last_term, equal_at}
 use Rattle.server_log.specs.Logs.{live, length_of, joined}
 use Rattle.server_log.proofs.Common.{rolled_is}
-use Rattle.server_log.proofs.Equal.{equal_at}
+use Rattle.server_log.proofs.Equal.{equal_at_lem}
 use Rattle.server_log.proofs.Live.{entry_at_zero}
 use Rattle.server_log.proofs.Positions.{entry_at_joined_low, entry_at_joined_high}
 use Rattle.server_log.proofs.Tidy.{Tidy, live_joined}
@@ -37,7 +37,7 @@ use Rattle.safety.specs.Told.{ClusterSeen}
 use Rattle.safety.specs.Steps.{Copies, pulls, rolls_back, Goes, takes, Fresh, Walk}
 use Rattle.safety.specs.View.{seen_entry, seen_server, view, told_in, seen_cluster}
 use Rattle.safety.proofs.Joins.{pulled, no_refusal_9}
-use Rattle.safety.proofs.Views.{in_range, here, others, holds_common}
+use Rattle.safety.proofs.Views.{in_range_lem, here, others, holds_common}
 use Rattle.safety.proofs.SeenQuiet.{Sees}
 
 tidy_at : (c : Cluster) → Good c → (a : ℕ) → ltb a (server_count c) ≡ true → Tidy (server_at c a).log
@@ -74,7 +74,7 @@ last_equal s t e = ap seen_entry (go (or_cases (eqb (length_of s.log) 0) _ e))
     go (inl h) =
         let z = eqb-true (length_of s.log) 0 h in
         sym (entry_at_zero (live s.log) _ z) ∙ entry_at_zero (live t.log) _ z
-    go (inr h) = (equal_at (live s.log) (live t.log) (length_of s.log) h).same
+    go (inr h) = (equal_at_lem (live s.log) (live t.log) (length_of s.log) h).same
 
 pub sees_roll : {𝓠 : Quorums} (c : Cluster) → Fits c → (a b : ℕ) → Sees 𝓠 c (RollsBack a b)
 unfolding row_of
@@ -114,7 +114,7 @@ module _ {𝓠 : Quorums} {u : ClusterSeen} (c : Cluster) (f : Fits c) (g : Good
   common_covers a b la lb h =
       let s = server_at c a in
       let t = server_at c b in
-      holds_common s t (f.each a (in_range c a la)).log (f.each b (in_range c b lb)).log
+      holds_common s t (f.each a (in_range_lem c a la)).log (f.each b (in_range_lem c b lb)).log
       (g.counted a (omega (arith, ltb-true a (server_count c) la))).commit_point
       (no_refusal_9 start w a b (rolls_back (ltb-true _ _ h)))
 

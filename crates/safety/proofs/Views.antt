@@ -50,8 +50,8 @@ use Rattle.safety.proofs.Time.{stamp_same}
 -- ---- servers
 
 -- a number below the server count is one of a server
-pub in_range : (c : Cluster) (a : ℕ) → ltb a (server_count c) ≡ true → a < most_servers
-in_range c a l = omega (arith, ltb-true a (server_count c) l)
+pub in_range_lem : (c : Cluster) (a : ℕ) → ltb a (server_count c) ≡ true → a < most_servers
+in_range_lem c a l = omega (arith, ltb-true a (server_count c) l)
 
 -- a delivery changes a queue alone, which no server shows
 delivered_view : (c : Cluster) (x : Sends) (i : ℕ) → view (delivered c x) i ≡ view c i
@@ -65,7 +65,7 @@ module _ (c : Cluster) (f : Fits c) (a : ℕ) (l : ltb a (server_count c) ≡ tr
   pub here : view (put_back c a o).cluster a ≡ seen_server o.server
   here =
       delivered_view (with_server c a o.server) o.sends a
-      ∙ ap seen_server (replaced_here c a o.server (omega (arith, f.slots, in_range c a l)))
+      ∙ ap seen_server (replaced_here c a o.server (omega (arith, f.slots, in_range_lem c a l)))
 
   pub others : Others (view c) (view (put_back c a o).cluster) a
   others i ne = delivered_view (with_server c a o.server) o.sends i ∙ ap seen_server (replaced_others c a o.server i ne)
@@ -130,8 +130,8 @@ pub fits_time : (g : Log) → FitsLog g → (n : ℕ) → FitsTime (entry_at (li
 fits_time g f n = (fits_entry f n).time
 
 -- entries whose times fit are equal where they look equal
-pub same_entry : (d e : Entry) → FitsTime d.time → FitsTime e.time → seen_entry d ≡ seen_entry e → d ≡ e
-same_entry d e f g q =
+pub same_entry_lem : (d e : Entry) → FitsTime d.time → FitsTime e.time → seen_entry d ≡ seen_entry e → d ≡ e
+same_entry_lem d e f g q =
     let times = stamp_same d.time e.time f g (ap (λ (x : EntrySeen). x.time) q) in
     λ i. record { term = (q i).term; key = (q i).key; value = (q i).value; time = times i }
 
@@ -140,7 +140,7 @@ same_entry d e f g q =
 module _ (s t : Server) (f : FitsLog s.log) (g : FitsLog t.log) {k : ℕ} (long : k ≤ length_of s.log) (h : Holds k (seen_server s).log (seen_server t)) where
   -- position by position
   holds_at : (n : ℕ) → n ≤ k → entry_at (live t.log) n ≡ entry_at (live s.log) n
-  holds_at n l = same_entry _ _ (fits_time t.log g n) (fits_time s.log f n) (h.same n l)
+  holds_at n l = same_entry_lem _ _ (fits_time t.log g n) (fits_time s.log f n) (h.same n l)
 
   pub first_same : take k (live s.log) ≡ take k (live t.log)
   first_same = same_first k (live s.log) (live t.log) long h.long (λ n l. sym (holds_at n l))

@@ -141,15 +141,15 @@ beginning xs ys e =
     let q = eqb-true (common_beginning xs ys) (length xs) e in
     record { long = omega (arith, (common_le xs ys).1); same = sym (rw q at (common_agrees xs ys)) ∙ take-length xs }
 
-pub is_beginning : {xs ys : List Entry} → Beginning xs ys → is_beginning xs ys ≡ true
-is_beginning {xs} {ys} b =
+pub is_beginning_lem : {xs ys : List Entry} → Beginning xs ys → is_beginning xs ys ≡ true
+is_beginning_lem {xs} {ys} b =
     eq-eqb (common_beginning xs ys) (length xs)
     (omega (arith, (common_le xs ys).0, common_longest (length xs) xs ys (omega arith) b.long (take-length xs ∙ sym b.same)))
 
 -- the first k entries of a list are a beginning of any list that has them too
 pub first_beginning : (k : ℕ) (xs ys : List Entry) → k ≤ length xs → k ≤ length ys → take k xs ≡ take k ys → is_beginning (take k xs) ys ≡ true
 first_beginning k xs ys hx hy e =
-    let n : length (take k xs) ≡ k = length-take-le k xs hx in is_beginning (record { long = omega arith; same = rw n (sym e) })
+    let n : length (take k xs) ≡ k = length-take-le k xs hx in is_beginning_lem (record { long = omega arith; same = rw n (sym e) })
 
 pub beginning_trans : {xs ys zs : List Entry} → Beginning xs ys → Beginning ys zs → Beginning xs zs
 beginning_trans {xs} {ys} {zs} a b =

@@ -34,9 +34,9 @@ pub record EqualAt (xs ys : List Entry) (n : ℕ) : Type 0 where
   pub right : n ≤ length ys
   pub same : entry_at xs n ≡ entry_at ys n
 
-pub equal_at : (xs ys : List Entry) (n : ℕ) → equal_at xs ys n ≡ true → EqualAt xs ys n
+pub equal_at_lem : (xs ys : List Entry) (n : ℕ) → equal_at xs ys n ≡ true → EqualAt xs ys n
 unfolding equal_at
-equal_at xs ys n e =
+equal_at_lem xs ys n e =
     let f = and_right (leb 1 n) _ e in
     let g = and_right (leb n (length xs)) _ f in
     record {

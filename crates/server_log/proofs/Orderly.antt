@@ -159,9 +159,9 @@ empty_log_is g slots h =
     (λ i l. zero-from i (omega arith) ∙ sym (get_or-replicate log_limit i zero_entry zero_entry (omega (arith, slots)))) in
     λ i. record { entries = e i; len = none i }
 
-pub is_empty_log : is_empty_log empty_log ≡ true
+pub is_empty_log_lem : is_empty_log empty_log ≡ true
 unfolding is_empty_log
-is_empty_log = is_rest empty_log 0 tidy_empty.rest
+is_empty_log_lem = is_rest empty_log 0 tidy_empty.rest
 
 -- ---- the whole log
 

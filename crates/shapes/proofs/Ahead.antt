@@ -66,7 +66,7 @@ tells l = go l.begun l.edition l.servers l.entries l.notes l.reports
     go true v zero zero zero zero = over refl refl
 
 -- nothing is due exactly where no line may follow
-pub at_end : (knows : List Edition) {l : Left} {d : Due} → Tells l d → is_end d ≡ expects knows l []
-at_end knows {l} (first b) = sym (ap (λ (x : Bool). cond x (shaped_by (edition_numbered knows l.edition).widths (todo l) []) false) b)
-at_end knows {l} (over b e) = sym (rw (b, e))
-at_end knows {l} (next k ks b later e f) = sym (rw (b, e))
+pub at_end_lem : (knows : List Edition) {l : Left} {d : Due} → Tells l d → is_end d ≡ expects knows l []
+at_end_lem knows {l} (first b) = sym (ap (λ (x : Bool). cond x (shaped_by (edition_numbered knows l.edition).widths (todo l) []) false) b)
+at_end_lem knows {l} (over b e) = sym (rw (b, e))
+at_end_lem knows {l} (next k ks b later e f) = sym (rw (b, e))

@@ -7,7 +7,7 @@ use native.Mathlib.Omega.{arith}
 use lib.ListN.{take, replicate, length-take}
 use Rattle.hex_text.specs.Lines.{bytes_of, over}
 use Rattle.lines.specs.Held.{nothing_read}
-use Rattle.lines.proofs.Held.{held_over, held_past, held_within}
+use Rattle.lines.proofs.Held.{held_over_lem, held_past, held_within}
 use Rattle.saved.specs.declared.Sort.{Sort}
 use Rattle.saved.specs.Layout.{size_of}
 use Rattle.saved.specs.Editions.{editions, widths1}
@@ -49,7 +49,7 @@ module _ (s : Shape) where
     judged_over e =
         by_test false
         (next_none editions reads_all k s.left.edition (shape_held s)
-        (λ w f. sym (held_over (size_of w k) (says_so k) false kept_chars (small f k) s.reader.held s.reader.fill s.reader.over e)))
+        (λ w f. sym (held_over_lem (size_of w k) (says_so k) false kept_chars (small f k) s.reader.held s.reader.fill s.reader.over e)))
 
     pub judged_past : kept_chars < s.reader.fill → broken_at s ≡ line_ended s
     unfolding is_frame

@@ -11,7 +11,7 @@ use Rattle.base.proofs.Cases.{◌▸◌}
 use Rattle.base.proofs.Facts.{lt_or_le}
 use Rattle.hex_text.specs.Lines.{bytes_of}
 use Rattle.hex_text.proofs.Places.{hex_length}
-use Rattle.words.proofs.Framed.{is_frame, framed_other}
+use Rattle.words.proofs.Framed.{is_frame_lem, framed_other}
 use Rattle.lines.proofs.Held as Held
 use Rattle.lines.proofs.Held.{held_is, held_framed}
 use Rattle.saved.specs.declared.Sort.{Sort}
@@ -64,7 +64,7 @@ module _ (knows : List Edition) where
     unfolding is_frame
     held_bytes e =
         let w = (edition_numbered knows (edition_for k n (bytes_of p))).widths in
-        let f = is_frame (size_of w k) (says_so k) false p true (next_frame k n p e) false≢true in
+        let f = is_frame_lem (size_of w k) (says_so k) false p true (next_frame k n p e) false≢true in
         held_is h (omega (arith, small (r (edition_for k n (bytes_of p))) k, hex_length (bytes_of p), f.long, ap length f.written))
 
 -- ---- a reader of all editions, one of edition 1 alone, and one of those before the newest

@@ -25,7 +25,7 @@ use Rattle.shapes.specs.declared.Shape.{Shape}
 use Rattle.shapes.specs.declared.Due.{Due}
 use Rattle.shapes.specs.Walk.{kept_chars, frame_reader, frame_push, fresh_shape, todo, edition_for, shape_held, with_reader, shape_push, broken_at, next_line, is_next, ended_as, line_ended_for, shape_after, walked_for, walked, is_shaped}
 use Rattle.shapes.proofs.Next.{Reads, StandsFor, held_next, held_bytes, next_known, reads_all}
-use Rattle.shapes.proofs.Ahead.{expects, Later, Tells, first, over, next, tells, at_end}
+use Rattle.shapes.proofs.Ahead.{expects, Later, Tells, first, over, next, tells, at_end_lem}
 
 -- ---- the last line ends in a line feed
 
@@ -200,7 +200,7 @@ module _ (knows : List Edition) (r : Reads knows) where
 
   from : (text : List ℕ) → Right text
   unfolding is_shaped closed frame_push
-  from [] s [] b known q h = simp (b, held_empty h) (at_end knows (tells s.left))
+  from [] s [] b known q h = simp (b, held_empty h) (at_end_lem knows (tells s.left))
   from [] s (c ∷ p) b known q h =
       simp (b, held_some h) (sym (ap (λ (x : Bool). x && expects knows s.left (lines (c ∷ p ++ []))) (ap closed (append-nil (c ∷ p)) ∙ closed_plain c p q)))
   from (c ∷ text) s p b known q h = go (from text) (eqb c line_feed) refl

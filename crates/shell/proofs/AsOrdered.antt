@@ -20,8 +20,8 @@ pub runs_none : (o : Orders) (l : Led) → BeginsBy o l → l.well ≡ false →
 runs_none o l b e = record { first = l; begins = b; unread = λ _. refl; answers = λ y _. not_both l.well y e; traces = λ y _. not_both l.well y e }
 
 module _ (o : Orders) (l r : Led) (b : BeginsBy o l) (e : l.well ≡ true) where
-  pub runs_all : o.trace ≡ false → Answered l.cluster r → RunsBy o r
-  runs_all t a = record { first = l; begins = b; unread = λ n. not_both l.well e n; answers = λ _ _. a; traces = λ _ y. not_both o.trace y t }
+  pub runs_all_lem : o.trace ≡ false → Answered l.cluster r → RunsBy o r
+  runs_all_lem t a = record { first = l; begins = b; unread = λ n. not_both l.well e n; answers = λ _ _. a; traces = λ _ y. not_both o.trace y t }
 
   pub runs_traced : o.trace ≡ true → TracedAll l.cluster r → RunsBy o r
   runs_traced t a = record { first = l; begins = b; unread = λ n. not_both l.well e n; answers = λ _ n. not_both o.trace t n; traces = λ _ _. a }

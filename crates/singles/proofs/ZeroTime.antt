@@ -15,7 +15,7 @@ use Rattle.steps.specs.Answers.{refusing}
 use Rattle.singles.specs.Appends.{append_rules, append_done}
 use Rattle.singles.specs.Writes.{most_ahead, writes_of}
 
-pub zero_time : (s : Server) (key value : ℕ) → let now = s.head.time in
+pub zero_time_lem : (s : Server) (key value : ℕ) → let now = s.head.time in
     writes_of s key value zero_time
     ≡ decided (refusing s) (append_done s key value now) ((leb key highest_key, OutOfRange) ∷ (leb 1 value, OutOfRange) ∷ append_rules s now)
-zero_time s key value = rw (later_zero s.head.time, le-leb 0 (s.head.wall + most_ahead) (omega arith))
+zero_time_lem s key value = rw (later_zero s.head.time, le-leb 0 (s.head.wall + most_ahead) (omega arith))

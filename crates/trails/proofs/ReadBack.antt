@@ -100,10 +100,10 @@ a_blank : {xs : List ℕ} (ys : List ℕ) → Seen xs → has_blank (xs ++ (blan
 a_blank ys nothing = refl
 a_blank ys (then {b} {bs} h p) = ap (λ (x : Bool). x || has_blank (bs ++ (blank ∷ ys))) (ne_eqb b blank (λ e. omega (arith, e))) ∙ a_blank ys p
 
-after_blank : {xs : List ℕ} (ys : List ℕ) → Seen xs → after_blank (xs ++ (blank ∷ ys)) ≡ ys
-after_blank ys nothing = refl
-after_blank ys (then {b} {bs} h p) =
-    ap (λ (x : Bool). cond x (bs ++ (blank ∷ ys)) (after_blank (bs ++ (blank ∷ ys)))) (ne_eqb b blank (λ e. omega (arith, e))) ∙ after_blank ys p
+after_blank_lem : {xs : List ℕ} (ys : List ℕ) → Seen xs → after_blank (xs ++ (blank ∷ ys)) ≡ ys
+after_blank_lem ys nothing = refl
+after_blank_lem ys (then {b} {bs} h p) =
+    ap (λ (x : Bool). cond x (bs ++ (blank ∷ ys)) (after_blank (bs ++ (blank ∷ ys)))) (ne_eqb b blank (λ e. omega (arith, e))) ∙ after_blank_lem ys p
 
 plain_append : {xs ys : List ℕ} → Plain xs → Plain ys → Plain (xs ++ ys)
 plain_append none q = q
@@ -162,7 +162,7 @@ module _ (rest : List ℕ) where
       ap (λ (t : List ℕ). answers_in (lines t)) text
       ∙ ap answers_in (line_first rest (plain_append (seen_plain (line_seen l)) (more refl (seen_plain (hex_seen (bytes_of_telling (telling_of a)))))))
       ∙ ap (λ (x : Bool). cond x (after_blank line ++ (line_feed ∷ [])) [] ++ answers_in (lines rest)) (a_blank (write_answer a) (line_seen l))
-      ∙ ap (λ (t : List ℕ). (t ++ (line_feed ∷ [])) ++ answers_in (lines rest)) (after_blank (write_answer a) (line_seen l))
+      ∙ ap (λ (t : List ℕ). (t ++ (line_feed ∷ [])) ++ answers_in (lines rest)) (after_blank_lem (write_answer a) (line_seen l))
     where
       text : pair_line l a ++ rest ≡ (shown_line l ++ (blank ∷ write_answer a)) ++ (line_feed ∷ rest)
       text =

@@ -49,8 +49,8 @@ module _ (c : Cluster) (k : CutLine) (p : List ℕ) (h : Keeps k p) where
   unfolding answer_to
   kept_answer = ap (respond c) (ap read_step h.held ∙ kept_step p)
 
-  kept_after : line_after c (held_in k) ≡ line_after c p
-  kept_after = ap (λ (o : Outcome). o.cluster) kept_answer
+  kept_after_lem : line_after c (held_in k) ≡ line_after c p
+  kept_after_lem = ap (λ (o : Outcome). o.cluster) kept_answer
 
   -- what is shown of the line that is kept is the line's own
   kept_shown : (w : Wanted) (n : ℕ) → shown_by w n c k ≡ line_traced w n c p
@@ -87,7 +87,7 @@ module _ (w : Wanted) where
           append_assoc (shown_by w n c k) (shown_over w (next true) text) (shown_last w (trail_over (next true) text))
           ∙ ap (λ (l : List ℕ). shown_by w n c k ++ l) (right (line_after c (held_in k)) nothing_kept (one_more n) [] none keeps_none)
           ∙ ap (λ (l : List ℕ). l ++ trace_from w (one_more n) (line_after c (held_in k)) (lines text)) (kept_shown c k p h w n)
-          ∙ ap (λ (d : Cluster). line_traced w n c p ++ trace_from w (one_more n) d (lines text)) (kept_after c k p h)
+          ∙ ap (λ (d : Cluster). line_traced w n c p ++ trace_from w (one_more n) d (lines text)) (kept_after_lem c k p h)
           ∙ sym (ap (trace_from w n c) (ap (λ (j : ℕ). lines (p ++ (j ∷ text))) (eqb-true b line_feed e) ∙ line_first text q))
       go right false e =
           right c (kept_with k b) n (p ++ (b ∷ [])) (plain_snoc b q e) (keeps_with k p b h)
@@ -106,14 +106,14 @@ unfolding ended_trail trail_after kept_after
 left [] c k n [] q h = rw (eq-eqb k.fill 0 h.fill)
 left [] c k n (b ∷ p) (more e q) h =
     rw (ne_eqb k.fill 0 (λ z. omega (arith, z, h.fill)))
-    (kept_after c k (b ∷ p) h ∙ sym (ap (record_after c) (ap (λ (l : List ℕ). lines (b ∷ l)) (append-nil p) ∙ line_last b p e q)))
+    (kept_after_lem c k (b ∷ p) h ∙ sym (ap (record_after c) (ap (λ (l : List ℕ). lines (b ∷ l)) (append-nil p) ∙ line_last b p e q)))
 left (b ∷ text) c k n p q h = go (left text) (eqb b line_feed) refl
   where
     go : Left text → (x : Bool) → eqb b line_feed ≡ x
         → ended_trail (trail_over (trail (cond x (line_after c (held_in k)) c) (cond x nothing_kept (kept_with k b)) (cond x (one_more n) n)) text)
         ≡ record_after c (lines (p ++ (b ∷ text)))
     go rest true e =
-        rest (line_after c (held_in k)) nothing_kept (one_more n) [] none keeps_none ∙ ap (λ (d : Cluster). record_after d (lines text)) (kept_after c k p h)
+        rest (line_after c (held_in k)) nothing_kept (one_more n) [] none keeps_none ∙ ap (λ (d : Cluster). record_after d (lines text)) (kept_after_lem c k p h)
         ∙ sym (ap (record_after c) (ap (λ (j : ℕ). lines (p ++ (j ∷ text))) (eqb-true b line_feed e) ∙ line_first text q))
     go rest false e =
         rest c (kept_with k b) n (p ++ (b ∷ [])) (plain_snoc b q e) (keeps_with k p b h)

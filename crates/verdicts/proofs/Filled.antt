@@ -10,7 +10,7 @@ use Rattle.server_log.specs.declared.Log.{Log}
 use Rattle.server_log.specs.Entries.{zero_entry}
 use Rattle.server_log.specs.Logs.{log_limit, live, length_of}
 use Rattle.server_log.proofs.Live.{length_live, first_slots}
-use Rattle.hex_text.proofs.Places.{Put, put_none, put_more, put_all}
+use Rattle.hex_text.proofs.Places.{Put, put_none, put_more, put_all_lem}
 use Rattle.hex_text.proofs.Trips.{over_all}
 use Rattle.histories.specs.Committed.{committed_limit, lent, entries_on, entries_of}
 use Rattle.histories.specs.Longest.{columns_of}
@@ -34,7 +34,7 @@ module _ (es : List Entry) (long : length es ≡ log_limit) (f : Entry → ℕ) 
 
   filled_all : i ≡ log_limit → column ≡ map f es
   filled_all h =
-      put_all u (omega (arith, length-map es f, length-replicate {A = ℕ} committed_limit 0))
+      put_all_lem u (omega (arith, length-map es f, length-replicate {A = ℕ} committed_limit 0))
       ∙ over_all (map f es) zeros (omega (arith, length-map es f, length-replicate {A = ℕ} committed_limit 0))
 
 -- all five

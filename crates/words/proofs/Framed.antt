@@ -41,9 +41,9 @@ module _ {A : Type 0} (n : ℕ) (f : List ℕ → A) (none : A) where
     pub written : hex_of (bytes_of line) ≡ line
     pub made : f (bytes_of line) ≡ x
 
-  pub is_frame : (line : List ℕ) (x : A) → framed n f none line ≡ x → (none ≡ x → ⊥) → IsFrame line x
+  pub is_frame_lem : (line : List ℕ) (x : A) → framed n f none line ≡ x → (none ≡ x → ⊥) → IsFrame line x
   unfolding framed
-  is_frame line x e other = go (eqb (length line) (chars * n) && all_hex line) refl e
+  is_frame_lem line x e other = go (eqb (length line) (chars * n) && all_hex line) refl e
     where
       go : (t : Bool) → (eqb (length line) (chars * n) && all_hex line) ≡ t → cond t (f (bytes_of line)) none ≡ x → IsFrame line x
       go true p e =

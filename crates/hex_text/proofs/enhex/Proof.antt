@@ -1,6 +1,6 @@
 -- `hex_text::enhex` meets its contract. Assumes nothing.
 use Rattle.hex_text.specs.Lines.{hex_of}
-use Rattle.hex_text.proofs.Places.{hex_length, char_at_lem, Put, put_none, put_more, put_all}
+use Rattle.hex_text.proofs.Places.{hex_length, char_at_lem, Put, put_none, put_more, put_all_lem}
 use native.Mathlib.Omega.{arith}
 use lib.ListN.{length}
 use mathlib.Core.Path.{sym, ◌∙◌}
@@ -22,7 +22,7 @@ same_length : tie.Need-same-length invariant-loop decreases-loop
 same_length c = search rules
 
 returns : tie.Need-returns invariant-loop decreases-loop
-returns c = let l = c.before.before.before.before.before.args.bytes.now in put_all c.before.before.loop.invariant (omega (arith, hex_length l))
+returns c = let l = c.before.before.before.before.before.args.bytes.now in put_all_lem c.before.before.loop.invariant (omega (arith, hex_length l))
 
 shared-slice-read-char-at : tie.Need-shared-slice-read-char-at invariant-loop decreases-loop
 shared-slice-read-char-at c = search rules
@@ -49,7 +49,7 @@ same-length-2 : tie.Need-same-length-2 invariant-loop decreases-loop
 same-length-2 c = search rules
 
 returns-2 : tie.Need-returns-2 invariant-loop decreases-loop
-returns-2 c = put_all c.before.loop.invariant (omega arith)
+returns-2 c = put_all_lem c.before.loop.invariant (omega arith)
 
 pub enhex-spec : {M : Type 1} → statement M
 enhex-spec =

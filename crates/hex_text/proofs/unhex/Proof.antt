@@ -1,6 +1,6 @@
 -- `hex_text::unhex` meets its contract. Assumes nothing.
 use Rattle.hex_text.specs.Lines.{bytes_of}
-use Rattle.hex_text.proofs.Places.{bytes_length, byte_at, Put, put_none, put_more, put_all}
+use Rattle.hex_text.proofs.Places.{bytes_length, byte_at, Put, put_none, put_more, put_all_lem}
 use native.Mathlib.Omega.{arith}
 use lib.ListN.{length}
 use mathlib.Core.Path.{sym, ◌∙◌}
@@ -22,7 +22,7 @@ same_length : tie.Need-same-length invariant-loop decreases-loop
 same_length c = search rules
 
 returns : tie.Need-returns invariant-loop decreases-loop
-returns c = let l = c.before.before.before.before.before.args.line.now in put_all c.before.before.loop.invariant (omega (arith, bytes_length l))
+returns c = let l = c.before.before.before.before.before.args.line.now in put_all_lem c.before.before.loop.invariant (omega (arith, bytes_length l))
 
 mul-byte-of : tie.Need-overflow-mul-byte-of invariant-loop decreases-loop
 mul-byte-of c = search rules
@@ -61,7 +61,7 @@ same-length-2 : tie.Need-same-length-2 invariant-loop decreases-loop
 same-length-2 c = search rules
 
 returns-2 : tie.Need-returns-2 invariant-loop decreases-loop
-returns-2 c = put_all c.before.loop.invariant (omega arith)
+returns-2 c = put_all_lem c.before.loop.invariant (omega arith)
 
 pub unhex-spec : {M : Type 1} → statement M
 unhex-spec =

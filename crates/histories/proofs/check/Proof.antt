@@ -57,7 +57,7 @@ use Rattle.histories.specs.Rules.{no_record}
 use Rattle.histories.specs.Checking.{check_of}
 use Rattle.histories.specs.Walking.{start_of, looked_at}
 use Rattle.histories.proofs.Carrying.{Held, held_none, held_more, held_all}
-use Rattle.histories.proofs.Slices.{Slices, Five, part, parts_of, log_of}
+use Rattle.histories.proofs.Slices.{Slices, Five, part, parts_of, log_of_lem}
 use Rattle.histories.specs.contracts.PhoneRecord as R
 use Rattle.histories.proofs.PhoneRecord.TheLaws as R'
 use Rattle.histories.specs.contracts.Seen as S
@@ -142,13 +142,13 @@ module _ {M : Type 1} {𝓤 : Ura M} (𝓛 : Logic 𝓤) (at_mem : Memory → SP
   Answers = triple_of 𝓛 answer_of.signature (answer_of.spec 𝓛 at_mem run)
 
   -- of what each ensures, the clause alone
-  start-said : (κ : Lft) (g : Five) (r : Seen) → ent 𝓤 (ensured 𝓛 start.ended (start.clauses 𝓛 at_mem run) (κ, tt) g tt r) (fact 𝓤 (r ≡ start_of (log_of g)))
-  start-said κ g r = ex_e 𝓤 _ (λ ws. snd∗ 𝓤 (sem 𝓛 (lasts start.ended (κ, tt) g ws)) (fact 𝓤 (r ≡ start_of (log_of g))))
+  start-said : (κ : Lft) (g : Five) (r : Seen) → ent 𝓤 (ensured 𝓛 start.ended (start.clauses 𝓛 at_mem run) (κ, tt) g tt r) (fact 𝓤 (r ≡ start_of (log_of_lem g)))
+  start-said κ g r = ex_e 𝓤 _ (λ ws. snd∗ 𝓤 (sem 𝓛 (lasts start.ended (κ, tt) g ws)) (fact 𝓤 (r ≡ start_of (log_of_lem g))))
 
   look-at-said : (κ : Lft) (g : Five) (t : Seen) (y : PhoneRecord) (r : Seen)
-      → ent 𝓤 (ensured 𝓛 look_at.ended (look_at.clauses 𝓛 at_mem run) (κ, tt) (t, (y, g)) tt r) (fact 𝓤 (r ≡ looked_at (entries_of (log_of g)) t y))
+      → ent 𝓤 (ensured 𝓛 look_at.ended (look_at.clauses 𝓛 at_mem run) (κ, tt) (t, (y, g)) tt r) (fact 𝓤 (r ≡ looked_at (entries_of (log_of_lem g)) t y))
   look-at-said κ g t y r =
-      ex_e 𝓤 _ (λ ws. snd∗ 𝓤 (sem 𝓛 (lasts look_at.ended (κ, tt) (t, (y, g)) ws)) (fact 𝓤 (r ≡ looked_at (entries_of (log_of g)) t y)))
+      ex_e 𝓤 _ (λ ws. snd∗ 𝓤 (sem 𝓛 (lasts look_at.ended (κ, tt) (t, (y, g)) ws)) (fact 𝓤 (r ≡ looked_at (entries_of (log_of_lem g)) t y)))
 
   answer-of-said : (t : Seen) (r : Checked) → ent 𝓤 (ensured 𝓛 answer_of.ended (answer_of.clauses 𝓛 at_mem run) tt (t, tt) tt r) (fact 𝓤 (r ≡ t.answer))
   answer-of-said t r = ex_e 𝓤 _ (λ ws. snd∗ 𝓤 (sem 𝓛 (lasts answer_of.ended tt (t, tt) ws)) (fact 𝓤 (r ≡ t.answer)))
@@ -182,7 +182,7 @@ module _ {M : Type 1} {𝓤 : Ura M} (𝓛 : Logic 𝓤) (at_mem : Memory → SP
   abbrev Post : Val → SProp 𝓤
   Post = (walk_of 𝓛 f.ended stayed (f.clauses 𝓛 at_mem run)).post (((κ, tt), (q, tt), tt, x, at), tt)
 
-  exits : (r : Checked) (v : Val) → r ≡ check_of ys (log_of g) → ent 𝓤 (⋆ 𝓛 (‵ ((E.the_row).own_val r (v ∷ [])) ∷ ‵ (flft κ q) ∷ ‵ Own ∷ ‵ Log ∷ [])) (Post v)
+  exits : (r : Checked) (v : Val) → r ≡ check_of ys (log_of_lem g) → ent 𝓤 (⋆ 𝓛 (‵ ((E.the_row).own_val r (v ∷ [])) ∷ ‵ (flft κ q) ∷ ‵ Own ∷ ‵ Log ∷ [])) (Post v)
   exits r v e =
       qed 𝓛 (‵ ((E.the_row).own_val r (v ∷ [])) ∷ ‵ (flft κ q) ∷ ‵ Own ∷ ‵ Log ∷ []) ∵
       suffices ! _ (ends_at 𝓛 f.ended stayed (f.clauses 𝓛 at_mem run) (((κ, tt), (q, tt), tt, x, at), tt) v r (tt, (tt, (tt, (tt, (tt, (tt, tt)))))) (tt, (tt, (tt, (tt, (tt, (tt, tt))))))) $ says ! e $
@@ -211,7 +211,7 @@ module _ {M : Type 1} {𝓤 : Ura M} (𝓛 : Logic 𝓤) (at_mem : Memory → SP
 
   -- the variant
   abbrev Upto : Type 0
-  Upto = (i : ℕ) × (t : Seen) × (i ≤ length ys) × Is S.the_row t (seen t ∷ []) × Held (log_of g) ys i t
+  Upto = (i : ℕ) × (t : Seen) × (i ≤ length ys) × Is S.the_row t (seen t ∷ []) × Held (log_of_lem g) ys i t
 
   abbrev Nearer : Upto → Upto → Type 0
   Nearer v u = length ys - v.0 < length ys - u.0
@@ -271,7 +271,7 @@ module _ {M : Type 1} {𝓤 : Ura M} (𝓛 : Logic 𝓤) (at_mem : Memory → SP
           (and_then ! (load ! (from ! (stop !)) (look ! 13 refl)) (and_then ! (load ! (from ! (stop !)) (look ! 3 refl)) (and_then ! (load ! (from ! (stop !)) (look ! 23 refl)) (and_then ! (load ! (from ! (stop !)) (look ! 21 refl))
           (and_then ! (load ! (from ! (stop !)) (look ! 19 refl)) (and_then ! (load ! (from ! (stop !)) (look ! 17 refl)) (and_then ! (load ! (from ! (stop !)) (look ! 15 refl)) (no_more !)))))))) (λ v.
           use1 𝓛 (later (some (λ (r : Seen). ((‵ (flft κ q) ⊛ ‵ ftrue) ⊛ ‵ ((S.the_row).own_val r (v ∷ []))) ⊛ raw (ensured 𝓛 look_at.ended (look_at.clauses 𝓛 at_mem run) (κ, tt) (u.1, (y, g)) tt r)))) (id⊢ 𝓤 _) $ await ! tt $ pick ! (λ r.
-          split ! $ move ! (1 ∷ []) $ use1 𝓛 (raw (fact 𝓤 (r ≡ looked_at (entries_of (log_of g)) u.1 y))) (look-at-said 𝓛 at_mem run κ g u.1 y r) $ heard ! (r ≡ looked_at (entries_of (log_of g)) u.1 y) (λ e. split ! $ move ! (1 ∷ []) $
+          split ! $ move ! (1 ∷ []) $ use1 𝓛 (raw (fact 𝓤 (r ≡ looked_at (entries_of (log_of_lem g)) u.1 y))) (look-at-said 𝓛 at_mem run κ g u.1 y r) $ heard ! (r ≡ looked_at (entries_of (log_of_lem g)) u.1 y) (λ e. split ! $ move ! (1 ∷ []) $
           -- [what the result owns; the token; what the log owns; the fractured borrow; _12; …]
           peeks ! S.the_row (Is S.the_row) (shows 𝓛 S.the_row) r (v ∷ []) (λ is.
           land ! (from ! (stop !)) (store ! 14 refl ((LL.lawful S.the_type S'.the_laws 𝓛).typed r _ is).0) $ drop ! $
@@ -305,8 +305,8 @@ module _ {M : Type 1} {𝓤 : Ura M} (𝓛 : Logic 𝓤) (at_mem : Memory → SP
           one_more : T (ltb u.0 (length ys)) → u.0 + 1 < 2 ^ 64
           one_more less = omega (arith, below less, gn.1)
 
-          next : T (ltb u.0 (length ys)) → (r : Seen) → Is S.the_row r (seen r ∷ []) → r ≡ looked_at (entries_of (log_of g)) u.1 y → Upto
-          next less r gr e = (u.0 + 1, r, add-one-le (below less), gr, subst (Held (log_of g) ys (u.0 + 1)) (sym e) (held_more u.4 (below less)))
+          next : T (ltb u.0 (length ys)) → (r : Seen) → Is S.the_row r (seen r ∷ []) → r ≡ looked_at (entries_of (log_of_lem g)) u.1 y → Upto
+          next less r gr e = (u.0 + 1, r, add-one-le (below less), gr, subst (Held (log_of_lem g) ys (u.0 + 1)) (sym e) (held_more u.4 (below less)))
 
       looping : (u : Upto) → Sq 𝓛 (At u) (runs C Λ En pieces.t-3 (at_ret En Post))
       looping u = first ! $ blocks ! $ loops ! 𝓣 Nearer Nearer-wf At turns u
@@ -328,7 +328,7 @@ module _ {M : Type 1} {𝓤 : Ura M} (𝓛 : Logic 𝓤) (at_mem : Memory → SP
         (and_then ! (load ! (from ! (stop !)) (look ! 24 refl)) (and_then ! (load ! (from ! (stop !)) (look ! 22 refl)) (and_then ! (load ! (from ! (stop !)) (look ! 20 refl))
         (and_then ! (load ! (from ! (stop !)) (look ! 18 refl)) (and_then ! (load ! (from ! (stop !)) (look ! 16 refl)) (no_more !)))))) (λ v.
         use1 𝓛 (later (some (λ (r : Seen). ((‵ (flft κ q) ⊛ ‵ ftrue) ⊛ ‵ ((S.the_row).own_val r (v ∷ []))) ⊛ raw (ensured 𝓛 start.ended (start.clauses 𝓛 at_mem run) (κ, tt) g tt r)))) (id⊢ 𝓤 _) $ await ! tt $ pick ! (λ r.
-        split ! $ move ! (1 ∷ []) $ use1 𝓛 (raw (fact 𝓤 (r ≡ start_of (log_of g)))) (start-said 𝓛 at_mem run κ g r) $ heard ! (r ≡ start_of (log_of g)) (λ e. split ! $ move ! (1 ∷ []) $
+        split ! $ move ! (1 ∷ []) $ use1 𝓛 (raw (fact 𝓤 (r ≡ start_of (log_of_lem g)))) (start-said 𝓛 at_mem run κ g r) $ heard ! (r ≡ start_of (log_of_lem g)) (λ e. split ! $ move ! (1 ∷ []) $
         -- [what the result owns; the token; what the log owns; true; what the records own; room for _12; …; _2; …; _1; …; room for _0; …]
         peeks ! S.the_row (Is S.the_row) (shows 𝓛 S.the_row) r (v ∷ []) (λ is.
         land ! (from ! (stop !)) (init ! 15 refl ((LL.lawful S.the_type S'.the_laws 𝓛).typed r _ is).0) $ drop ! $
@@ -338,7 +338,7 @@ module _ {M : Type 1} {𝓤 : Ura M} (𝓛 : Logic 𝓤) (at_mem : Memory → SP
         move ! (3 ∷ []) $ use1 𝓛 (‵ Own ⊛ ‵ Own) ((shr_slice_copy 𝓛 (named 0) κ R.the_row).twice x.0 at.0) $ split ! $ fsplit ! $ drop ! $ fsplit ! $ drop ! $
         move ! (2 ∷ []) $ split ! $
         keep ! (0 ∷ 2 ∷ 6 ∷ 7 ∷ 8 ∷ 9 ∷ 10 ∷ 11 ∷ 12 ∷ 13 ∷ 14 ∷ 15 ∷ 16 ∷ 17 ∷ 18 ∷ 19 ∷ 20 ∷ 21 ∷ 22 ∷ 23 ∷ 24 ∷ 25 ∷ 26 ∷ 27 ∷ 28 ∷ 29 ∷ 30 ∷ 31 ∷ 3 ∷ 4 ∷ []) $
-        looping l₀ l₁ l₂ l₃ l₄ l₅ l₆ l₇ l₈ l₉ l₁₀ l₁₁ l₁₂ (0, r, zero-le, subst (Is S.the_row r) (LL.tells S.the_type S'.the_laws r (v ∷ []) is) is, subst (Held (log_of g) ys 0) (sym e) (held_none (log_of g) ys)))))))))))))))))))
+        looping l₀ l₁ l₂ l₃ l₄ l₅ l₆ l₇ l₈ l₉ l₁₀ l₁₁ l₁₂ (0, r, zero-le, subst (Is S.the_row r) (LL.tells S.the_type S'.the_laws r (v ∷ []) is) is, subst (Held (log_of_lem g) ys 0) (sym e) (held_none (log_of_lem g) ys)))))))))))))))))))
 
 module _ {M : Type 1} {𝓤 : Ura M} (𝓛 : Logic 𝓤) (at_mem : Memory → SProp 𝓤) (run : Routine → Fun 𝓤) where
   open 𝓛 use {H}

@@ -6,7 +6,7 @@ use borrow.Author.Tests.{eq-eqb, ne_eqb}
 use borrow.Author.Rules.{rules}
 use Rattle.orders.specs.declared.Ordered.TheVariants.{Known}
 use Rattle.orders.specs.Orders.{order_chars}
-use Rattle.orders.proofs.Ordering.{none_given, other_length, no_feed, a_line}
+use Rattle.orders.proofs.Ordering.{none_given, other_length, no_feed, a_line_lem}
 use Rattle.orders.proofs.orders_in.Statement.{statement}
 use Rattle.orders.proofs.orders_in.Tie as tie
 
@@ -39,7 +39,7 @@ returns-4 : tie.Need-returns-4
 returns-4 c =
     let f = c.before.before in
     let l = f.before.before in
-    c.line-in.ensures ∙ a_line _ l.before.if1.false l.if2.false (eq-eqb _ _ f.if3.false)
+    c.line-in.ensures ∙ a_line_lem _ l.before.if1.false l.if2.false (eq-eqb _ _ f.if3.false)
 
 pub orders-in-spec : {M : Type 1} → statement M
 orders-in-spec =

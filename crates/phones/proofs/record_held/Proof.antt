@@ -6,7 +6,7 @@ use native.Mathlib.Omega.{arith}
 use lib.ListN.{length, take}
 use lib.Seq.{length-take-le}
 use Rattle.base.proofs.Facts.{mapped_long}
-use Rattle.lines.proofs.Held.{held_over, held_short, held_within}
+use Rattle.lines.proofs.Held.{held_over_lem, held_short, held_within}
 use Rattle.lines.specs.declared.Reader.{Reader}
 use Rattle.lines.specs.Readers.{width, line_held}
 use Rattle.phones.specs.declared.ReadRecord.TheVariants.{NoRecord}
@@ -25,7 +25,7 @@ slots c = search (rules, mapped_long)
 
 returns : tie.Need-returns
 unfolding line_held
-returns c = let r = c.before.args.r in held_over record_bytes record_of NoRecord width (omega arith) r.held r.fill r.over c.if1.true
+returns c = let r = c.before.args.r in held_over_lem record_bytes record_of NoRecord width (omega arith) r.held r.fill r.over c.if1.true
 
 returns-2 : tie.Need-returns-2
 unfolding line_held

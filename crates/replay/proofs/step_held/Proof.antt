@@ -1,6 +1,6 @@
 -- `replay::step_held` meets its contract. Assumes nothing.
 use Rattle.base.proofs.Facts.{mapped_long}
-use Rattle.lines.proofs.Held.{held_over, held_short, held_within}
+use Rattle.lines.proofs.Held.{held_over_lem, held_short, held_within}
 use Rattle.frames.specs.declared.ReadStep.TheVariants.{NoFrame}
 use Rattle.frames.specs.Layout.{step_bytes}
 use Rattle.frames.specs.Steps.{step_in, read_step}
@@ -22,7 +22,7 @@ whole r l e h = sym (take_all r.fill r.held (omega arith)) ∙ held_within width
 
 returns : tie.Need-returns
 unfolding line_held
-returns c = let r = c.before.args.r in held_over step_bytes step_in NoFrame width (omega arith) r.held r.fill r.over c.if1.true
+returns c = let r = c.before.args.r in held_over_lem step_bytes step_in NoFrame width (omega arith) r.held r.fill r.over c.if1.true
 
 returns-2 : tie.Need-returns-2
 unfolding line_held

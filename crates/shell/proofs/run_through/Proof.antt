@@ -1,7 +1,7 @@
 -- `shell::run_through` meets its contract. Assumes nothing.
 use mathlib.Core.Path.{refl}
 use Rattle.base.proofs.Bools.{said_no, said_yes}
-use Rattle.shell.proofs.AsOrdered.{runs_none, runs_all, runs_traced}
+use Rattle.shell.proofs.AsOrdered.{runs_none, runs_all_lem, runs_traced}
 use borrow.Author.Rules.{rules}
 use Rattle.shell.proofs.run_through.Statement.{statement}
 use Rattle.shell.proofs.run_through.Tie as tie
@@ -31,7 +31,7 @@ returns-3 : tie.Need-returns-3
 returns-3 c =
     let tested = c.before.before.before.before in
     let first = tested.before.before.first-record in
-    runs_all _ first.result _ first.ensures (said_yes _ _ refl tested.if1.false) c.before.before.if2.false c.answered.ensures
+    runs_all_lem _ first.result _ first.ensures (said_yes _ _ refl tested.if1.false) c.before.before.if2.false c.answered.ensures
 
 pub run-through-spec : {M : Type 1} → statement M
 run-through-spec =

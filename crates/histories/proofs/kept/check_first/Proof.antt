@@ -56,7 +56,7 @@ use borrow.Rule.Array.Share.{Room-take}
 use Rattle.histories.specs.declared.PhoneRecord.{PhoneRecord}
 use Rattle.histories.specs.declared.Checked.{Checked}
 use Rattle.histories.specs.Checking.{check_of}
-use Rattle.histories.proofs.Slices.{Slices, Five, part, parts_of, log_of, log_shorter}
+use Rattle.histories.proofs.Slices.{Slices, Five, part, parts_of, log_of_lem, log_shorter}
 use Rattle.histories.specs.contracts.PhoneRecord as R
 use Rattle.histories.proofs.PhoneRecord.TheLaws as R'
 use Rattle.histories.specs.contracts.Checked as E
@@ -173,8 +173,8 @@ module _ {M : Type 1} {𝓤 : Ura M} (𝓛 : Logic 𝓤) (at_mem : Memory → SP
   first-of-said : (m r : ℕ) → ent 𝓤 (ensured 𝓛 first_of.ended (first_of.clauses 𝓛 at_mem run) tt (m, tt) tt r) (fact 𝓤 (r ≡ min m 257))
   first-of-said m r = ex_e 𝓤 _ (λ ws. snd∗ 𝓤 (sem 𝓛 (lasts first_of.ended tt (m, tt) ws)) (fact 𝓤 (r ≡ min m 257)))
 
-  check-said : (κ : Lft) (x : Bor (List PhoneRecord)) (g : Five) (r : Checked) → ent 𝓤 (ensured 𝓛 check.ended (check.clauses 𝓛 at_mem run) (κ, tt) (x, g) tt r) (fact 𝓤 (r ≡ check_of x.now (log_of g)))
-  check-said κ x g r = ex_e 𝓤 _ (λ ws. snd∗ 𝓤 (sem 𝓛 (lasts check.ended (κ, tt) (x, g) ws)) (fact 𝓤 (r ≡ check_of x.now (log_of g))))
+  check-said : (κ : Lft) (x : Bor (List PhoneRecord)) (g : Five) (r : Checked) → ent 𝓤 (ensured 𝓛 check.ended (check.clauses 𝓛 at_mem run) (κ, tt) (x, g) tt r) (fact 𝓤 (r ≡ check_of x.now (log_of_lem g)))
+  check-said κ x g r = ex_e 𝓤 _ (λ ws. snd∗ 𝓤 (sem 𝓛 (lasts check.ended (κ, tt) (x, g) ws)) (fact 𝓤 (r ≡ check_of x.now (log_of_lem g))))
 
 module _ {M : Type 1} {𝓤 : Ura M} (𝓛 : Logic 𝓤) (at_mem : Memory → SProp 𝓤) (run : Routine → Fun 𝓤) (κ : Lft) (q : Share) (xs : List PhoneRecord) (n : ℕ) (g : Five) (gx : Kept xs) (fits : n < 2 ^ 64) where
   open 𝓛 use {H, A}
@@ -191,7 +191,7 @@ module _ {M : Type 1} {𝓤 : Ura M} (𝓛 : Logic 𝓤) (at_mem : Memory → SP
   abbrev Post : Val → SProp 𝓤
   Post = (walk_of 𝓛 f.ended stayed (f.clauses 𝓛 at_mem run)).post (((κ, tt), (q, tt), tt, x, at_entry), tt)
 
-  exits : (r : Checked) (v : Val) → r ≡ check_of ys (log_of g) → ent 𝓤 (⋆ 𝓛 (‵ ((E.the_row).own_val r (v ∷ [])) ∷ ‵ (flft κ q) ∷ [])) (Post v)
+  exits : (r : Checked) (v : Val) → r ≡ check_of ys (log_of_lem g) → ent 𝓤 (⋆ 𝓛 (‵ ((E.the_row).own_val r (v ∷ [])) ∷ ‵ (flft κ q) ∷ [])) (Post v)
   exits r v e =
       qed 𝓛 (‵ ((E.the_row).own_val r (v ∷ [])) ∷ ‵ (flft κ q) ∷ []) ∵
       suffices ! _ (ends_at 𝓛 f.ended stayed (f.clauses 𝓛 at_mem run) (((κ, tt), (q, tt), tt, x, at_entry), tt) v r (tt, (tt, (tt, (tt, (tt, (tt, (tt, tt))))))) (tt, (tt, (tt, (tt, (tt, (tt, (tt, tt)))))))) $ says ! e $
@@ -252,7 +252,7 @@ module _ {M : Type 1} {𝓤 : Ura M} (𝓛 : Logic 𝓤) (at_mem : Memory → SP
         (and_then ! (load ! (from ! (stop !)) (look ! 4 refl)) (and_then ! (load ! (from ! (stop !)) (look ! 19 refl)) (and_then ! (load ! (from ! (stop !)) (look ! 17 refl))
         (and_then ! (load ! (from ! (stop !)) (look ! 15 refl)) (and_then ! (load ! (from ! (stop !)) (look ! 13 refl)) (and_then ! (load ! (from ! (stop !)) (look ! 11 refl)) (no_more !))))))) (λ u.
         use1 𝓛 (later (some (λ (c : Checked). ((‵ (flft (α ∷ κ) q) ⊛ ‵ ftrue) ⊛ ‵ ((E.the_row).own_val c (u ∷ []))) ⊛ raw (ensured 𝓛 check.ended (check.clauses 𝓛 at_mem run) (α ∷ κ, tt) (ref 𝓛 (α ∷ κ) xs n l₈ γ, g) tt c)))) (id⊢ 𝓤 _) $ await ! tt $ pick ! (λ c.
-        split ! $ move ! (1 ∷ []) $ use1 𝓛 (raw (fact 𝓤 (c ≡ check_of ys (log_of g)))) (check-said 𝓛 at_mem run (α ∷ κ) (ref 𝓛 (α ∷ κ) xs n l₈ γ) g c) $ heard ! (c ≡ check_of ys (log_of g)) (λ said. split ! $ move ! (1 ∷ []) $
+        split ! $ move ! (1 ∷ []) $ use1 𝓛 (raw (fact 𝓤 (c ≡ check_of ys (log_of_lem g)))) (check-said 𝓛 at_mem run (α ∷ κ) (ref 𝓛 (α ∷ κ) xs n l₈ γ) g c) $ heard ! (c ≡ check_of ys (log_of_lem g)) (λ said. split ! $ move ! (1 ∷ []) $
         peeks ! E.the_row (Is E.the_row) (shows 𝓛 E.the_row) c (u ∷ []) (λ gc.
         land ! (from ! (stop !)) (init ! 26 refl ((EL.lawful E.the_type E'.the_laws 𝓛 tt).typed c _ gc).0) $
         -- α is ended, and the records come back
