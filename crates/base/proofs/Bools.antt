@@ -1,5 +1,5 @@
 -- Laws of `&&`, `||` and of a flag that a call gave. Assumes nothing.
-use mathlib.Core.Path.{◌≡◌, refl, sym}
+use mathlib.Core.Path.{◌≡◌, refl, sym, ◌∙◌}
 use mathlib.Core.Bool.{Bool, true, false, not, ◌&&◌, ◌||◌, true≢false, false≢true}
 use mathlib.Core.Logic.{◌⊎◌, inl, inr}
 
@@ -41,10 +41,8 @@ not_both true p q = absurd (true≢false q)
 not_both false p q = absurd (false≢true p)
 
 -- what a call said, where the code tests its negation
-pub said_no : (r x : Bool) → r ≡ x → not r ≡ true → x ≡ false
-said_no true x e h = absurd (false≢true h)
-said_no false x e h = sym e
+pub said_no : (r x : Bool) → r ≡ x → r ≡ false → x ≡ false
+said_no r x e h = sym e ∙ h
 
-pub said_yes : (r x : Bool) → r ≡ x → not r ≡ false → x ≡ true
-said_yes true x e h = sym e
-said_yes false x e h = absurd (true≢false h)
+pub said_yes : (r x : Bool) → r ≡ x → r ≡ true → x ≡ true
+said_yes r x e h = sym e ∙ h
