@@ -101,7 +101,7 @@ fits_after {v} {e} f new = go (leb e.key highest_key)
 
 pub fits_over : {v : Latest} (es : List Entry) → FitsLatest v → FitEntries es → FitsLatest (latest_over v es)
 fits_over [] f all = f
-fits_over (e ∷ es) f all = fits_over es (fits_after f (all 0)) (λ i. all (suc i))
+fits_over {v = v} (e ∷ es) f all = fits_over {v = latest_after v e} es (fits_after f (all 0)) (λ i. all (suc i))
 
 pub fits_rows_of : {g : Log} → FitsLog g → (commit : ℕ) → FitsRows (rows_of g commit)
 fits_rows_of {g} f commit = record { whole = fits_over (live g) fits_zero_row (fit_live f); committed = fits_over (take commit (live g)) fits_zero_row (fit_taken (live g) commit (fit_live f)) }

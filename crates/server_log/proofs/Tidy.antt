@@ -110,7 +110,7 @@ all_appended {g} t (e ∷ es) h =
     let room = below_room g (omega arith) in
     let more = tidy_appended t e room in
     let held = live_appended t e room in
-    all_appended more es (omega (arith, tidy_length more, tidy_length t, ap length held, length-append (live g) (e ∷ [])))
+    all_appended {g = appended g e} more es (omega (arith, tidy_length more, tidy_length t, ap length held, length-append (live g) (e ∷ [])))
     ∙ ap (λ (xs : List Entry). log_of (xs ++ es)) held ∙ ap log_of (append_snoc (live g) e es)
 
 -- a log is its entries, appended in order to the empty log

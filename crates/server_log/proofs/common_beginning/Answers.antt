@@ -6,7 +6,6 @@ use Rattle.base.proofs.Facts.{mapped_long, mapped_below}
 use native.Mathlib.Omega.{arith}
 use lib.ListN.{length}
 use mathlib.Core.Path.{◌≡◌}
-use Prim.Native.Nat.{◌-◌}
 use borrow.Author.Rules.{rules}
 use Rattle.server_log.proofs.common_beginning.Goals as goal
 
@@ -22,12 +21,11 @@ returns-then-not-same_entry c =
     (said_no _ _ c.same_entry.ensures c.if-not-same_entry.true)
 
 pub loop-i-preserved : goal.loop-i-preserved
-loop-i-preserved c =
-    (
-      search rules,
-      common_more c.args.a c.args.b c.loop-i.i c.loop-i.invariant.1 (search rules) (search (rules, mapped_below)) (search rules) (search (rules, mapped_below))
-          (said_yes _ _ c.same_entry.ensures c.if-not-same_entry.false),
-    )
+loop-i-preserved c = (
+  search rules,
+  common_more c.args.a c.args.b c.loop-i.i c.loop-i.invariant.1 (search rules) (search (rules, mapped_below)) (search rules) (search (rules, mapped_below))
+      (said_yes _ _ c.same_entry.ensures c.if-not-same_entry.false),
+)
 
 pub returns : goal.returns
 returns c =

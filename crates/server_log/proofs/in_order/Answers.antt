@@ -7,7 +7,6 @@ use Rattle.base.proofs.Facts.{mapped_long}
 use native.Mathlib.Omega.{arith}
 use lib.ListN.{length}
 use mathlib.Core.Path.{◌≡◌}
-use Prim.Native.Nat.{◌-◌}
 use borrow.Author.Rules.{rules}
 use Rattle.server_log.proofs.in_order.Goals as goal
 

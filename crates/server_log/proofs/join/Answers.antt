@@ -6,7 +6,7 @@ use Rattle.base.specs.Lists.{joined_at}
 use native.Mathlib.Omega.{arith}
 use lib.ListN.{length}
 use mathlib.Core.Path.{◌≡◌, refl, ap, ◌∙◌}
-use Prim.Native.Nat.{◌<◌, ◌-◌, ℕ}
+use Prim.Native.Nat.{◌<◌, ℕ}
 use borrow.Author.Rules.{rules}
 use Rattle.server_log.proofs.join.Goals as goal
 

@@ -2,7 +2,7 @@
 use Rattle.server_log.proofs.Latest.{LatestWithin}
 use Rattle.server_log.specs.Logs.{log_limit, live}
 use lib.ListN.{length, take}
-use Prim.Native.Nat.{◌≤◌, ◌-◌}
+use Prim.Native.Nat.{◌≤◌}
 use Rattle.server_log.proofs.latest_value.Given as goal
 
 abbrev pub invariant-loop-i : goal.invariant-loop-i

@@ -6,7 +6,6 @@ use Rattle.base.proofs.Facts.{mapped_long, mapped_below}
 use native.Mathlib.Omega.{arith}
 use lib.ListN.{length}
 use mathlib.Core.Path.{◌≡◌}
-use Prim.Native.Nat.{◌-◌}
 use borrow.Author.Rules.{rules}
 use Rattle.server_log.proofs.rest_zero.Goals as goal
 

@@ -13,11 +13,11 @@ use native.Mathlib.Omega.{arith}
 use lib.ListN.{length, get_or, take, set, length-take}
 use lib.Seq.{get_or-take}
 use mathlib.Core.Path.{◌≡◌, refl, ◌∙◌}
-use mathlib.Core.Logic.{⊎_elim}
 use borrow.Author.Tests.{le-leb, lt-leb}
-use Prim.Native.Nat.{ℕ, ◌<◌, ◌≤◌, ◌-◌}
+use Prim.Native.Nat.{ℕ, ◌<◌, ◌≤◌}
 use borrow.Author.Rules.{rules}
 use Rattle.server_log.proofs.rows.latest_over.Goals as goal
+use Rattle.server_log.proofs.rows.latest_over.Goals.{then-key-le-HIGHEST_KEY, else-key-le-HIGHEST_KEY}
 
 -- an entry among the first n stands in its slot
 slot : (g : Log) (n i : ℕ) → i < length (take n (live g)) → get_or (take n (live g)) i zero_entry ≡ get_or g.entries i zero_entry
@@ -55,7 +55,7 @@ bounds-g-i-then-key-le-HIGHEST_KEY c = let h : c.loop-i.i < log_limit = omega (a
 pub loop-i-preserved : goal.loop-i-preserved
 loop-i-preserved c =
     let e = get_or c.args.g.entries c.loop-i.i zero_entry in
-    let after : c.if-key-le-HIGHEST_KEY.w ≡ latest_after c.loop-i.w e = ⊎_elim (λ x. x.1 ∙ noted _ e x.0.taken) (λ x. x.1 ∙ passed _ e x.0.left) c.if-key-le-HIGHEST_KEY.branch in
+    let after : c.if-key-le-HIGHEST_KEY.w ≡ latest_after c.loop-i.w e = elim c.if-key-le-HIGHEST_KEY.branch [ then-key-le-HIGHEST_KEY w ↦ w.w-is ∙ noted _ e w.if-key-le-HIGHEST_KEY.true | else-key-le-HIGHEST_KEY w ↦ w.w-is ∙ passed _ e w.if-key-le-HIGHEST_KEY.false ] in
     let h : c.loop-i.i < length (take c.args.n (live c.args.g)) = omega (arith, c.loop-i.invariant.1) in
     (c.loop-i.invariant.0, c.loop-i.invariant.1, rw after (left_less c.loop-i.invariant.2 e h (slot c.args.g c.args.n c.loop-i.i h)))
 

@@ -3,9 +3,7 @@ use Rattle.server_log.specs.Rows.{keys, same_row}
 use Rattle.base.proofs.Every.{every_none, every_more, every_fails}
 use native.Mathlib.Omega.{arith}
 use borrow.Author.Tests.{eq-eqb, ne_eqb}
-use mathlib.Core.Bool.{true}
 use mathlib.Core.Path.{◌≡◌, sym}
-use Prim.Native.Nat.{◌-◌}
 use borrow.Author.Rules.{rules}
 use Rattle.server_log.proofs.rows.same_row.Invariants.{same}
 use Rattle.server_log.proofs.rows.same_row.Goals as goal
