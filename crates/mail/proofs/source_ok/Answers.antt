@@ -8,8 +8,7 @@ use mathlib.Core.Path.{◌≡◌, refl}
 use mathlib.Core.Bool.{Bool, true, false}
 use Prim.Native.Nat.{ℕ, suc, ◌-◌}
 use borrow.Author.Rules.{rules}
-use Rattle.mail.proofs.source_ok.Statement.{statement}
-use Rattle.mail.proofs.source_ok.Tie as tie
+use Rattle.mail.proofs.source_ok.Goals as goal
 
 -- a source names the server whose number is one less
 one_less : (s i : ℕ) → (s ≡ 0 → ⊥) → eqb (s - 1) i ≡ eqb s (suc i)
@@ -19,20 +18,14 @@ one_less s i some = go (eqb s (suc i)) refl
     go true e = eq-eqb (s - 1) i (omega (arith, eqb-true s (suc i) e))
     go false e = ne_eqb (s - 1) i (λ q. eqb-false s (suc i) e (omega arith))
 
-returns : tie.Need-returns
+pub returns-then-source-eq0 : goal.returns-then-source-eq0
 unfolding source_ok
-returns c = search (rules, tests)
+returns-then-source-eq0 c = search (rules, tests)
 
-returns-2 : tie.Need-returns-2
+pub returns-then-count-source : goal.returns-then-count-source
 unfolding source_ok
-returns-2 c = search (rules, tests)
+returns-then-count-source c = search (rules, tests)
 
-sub-result : tie.Need-overflow-sub-result
-sub-result c = search rules
-
-returns-3 : tie.Need-returns-3
+pub returns : goal.returns
 unfolding source_ok
-returns-3 c = search (rules, tests, one_less)
-
-pub source-ok-spec : {M : Type 1} → statement M
-source-ok-spec = tie.close (tie.spec returns returns-2 sub-result returns-3)
+returns c = search (rules, tests, one_less)
