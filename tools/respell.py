@@ -20,6 +20,7 @@ KEYWORDS = set("data record deriving module where use mod pub package open as un
 RULESET = re.compile(r"^\s*(?:pub\s+)?ruleset\s+([^\s(){}\[\],;.:]+)")
 # A lemma that would have its function's name gets _lem: those that the words of specs/ don't tell, since their plain spelling was taken before.
 LEMMAS = {
+    "cluster.proofs.Good": ["well-formed"],
     "cluster.proofs.Masks": ["ones-in"],
     "lines.proofs.Held": ["too_long"],
     "loads.proofs.Texts": ["same_text"],
@@ -70,6 +71,13 @@ def read(path):
 
 def uncommented(line):
     return re.sub(r"(?:^|(?<=\s))--(?:\s.*)?$", "", line)
+
+
+def in_prose(text, at):
+    """A comment's words are English, but for names in backticks."""
+    line = text[text.rfind("\n", 0, at) + 1 : at]
+    start = re.search(r"(?:^|\s)(--|//)(?:\s|$)", line)
+    return start and line[start.end() :].count("`") % 2 == 0
 
 
 def is_walk(path):
@@ -174,7 +182,7 @@ def main(argv):
                     t = aliases[path_to[1]][n]
                 elif not path_to[1].startswith("Rattle"):
                     t = fields.get(n, n)
-            else:
+            elif not in_prose(text, m.start()):
                 t = scope.get(n) or fields.get(n, n)
             out.append(text[last : m.start()])
             out.append(t)

@@ -499,7 +499,7 @@ a_count_is_retired c a count n term w l o m k =
 
 -- ---- saving and loading
 
--- a well_formed record's saved form is written where the longest has room, an ill-formed one is refused with 2, and else the buffer is as it was
+-- a well-formed record's saved form is written where the longest has room, an ill-formed one is refused with 2, and else the buffer is as it was
 pub save_is : (κs : Lfts 1) (c : Cluster) (out o : Bor (List ℕ)) (r : Saved) → save_contract.Learnt κs (c, (out, tt)) r (c, (o, tt))
     → (r ≡ saved_of c (length out.now)) × (o.now ≡ saved_out c out.now)
 save_is κs c out o r e = e
@@ -517,7 +517,7 @@ pub no_saved_form_is_longer : (c : Cluster) → Fits c → well_formed c ≡ tru
 unfolding save_of
 no_saved_form_is_longer c f w = saved_frames.saved_length c f w (newest).number
 
--- in an edition that is known a record is saved where that has a form for it, and the newest has one for every well_formed record
+-- in an edition that is known a record is saved where that has a form for it, and the newest has one for every well-formed record
 pub save_as_is : (κs : Lfts 1) (n : ℕ) (c : Cluster) (out o : Bor (List ℕ)) (r : Saved) → save_as_contract.Learnt κs (n, (c, (out, tt))) r (n, (c, (o, tt)))
     → (r ≡ saved_as_of n c (length out.now)) × (o.now ≡ saved_as_out n c out.now)
 save_as_is κs n c out o r e = e
@@ -657,7 +657,7 @@ reason_is g p r e = e
 pub the_check_says_what_holds : (g : Committed) (rs : List PhoneRecord) (a : Checked) → (check_of rs g ≡ a) ↔ CheckSays g rs a
 the_check_says_what_holds g rs a = (exactly.given_only g rs a, exactly.given_when g rs a)
 
--- a log that is let through is one that a counted server of some well_formed record holds, and the other way round
+-- a log that is let through is one that a counted server of some well-formed record holds, and the other way round
 pub a_log_is_let_through : (g : Committed) → (could_hold g ≡ true) ↔ LogFits g
 a_log_is_let_through g = (judged.log_fits g, judged.fits_log g)
 
@@ -737,7 +737,7 @@ found_is_for_the_key = latest.found_key
 pub none_for_the_key_after : (key : ℕ) (es : List Entry) (n : ℕ) → latest.found key es < n → n ≤ length es → (entry_at es n).key ≡ key → ⊥
 none_for_the_key_after = latest.found_last
 
--- kinds 10 and 11 answer from rows, which in a well_formed record have what a read finds, in the whole log and in the covered entries
+-- kinds 10 and 11 answer from rows, which in a well-formed record have what a read finds, in the whole log and in the covered entries
 pub the_row_has_the_latest : (c : Cluster) → Fits c → well_formed c ≡ true → (i key : ℕ) → i < c.count → key ≤ highest_key
     → value_for (server_at c i).rows.whole key ≡ latest_value key (live (server_at c i).log)
 the_row_has_the_latest c f h i key l k = walks.local_walks ((facts.good c f h).counted i l) key k
@@ -804,7 +804,7 @@ pub well_formed_is_good : (c : Cluster) → Fits c → well_formed c ≡ true �
 well_formed_is_good = facts.good
 
 pub good_is_well_formed : (c : Cluster) → facts.Good c → well_formed c ≡ true
-good_is_well_formed = facts.well_formed
+good_is_well_formed = facts.well_formed_lem
 
 -- lines: a digit has one character, a number of two bytes its bytes, a frame its length; the table of masks says which bytes must be zero;
 -- a length keeps its value in an answer; what is read of an answer is in range
@@ -889,7 +889,7 @@ a_traced_run_leaves_its_record = trails.drained_record
 pub the_pairs_have_the_answers : (w : Wanted) (c : Cluster) (text : List ℕ) → w.before ≡ 0 → w.last ≡ 0 → answers_in (lines (trace_of w c text)) ≡ answers c text
 the_pairs_have_the_answers = read_back.read_back
 
--- a brief form is what the saved form of a well_formed record begins with
+-- a brief form is what the saved form of a well-formed record begins with
 pub a_brief_form_is_the_first_frame : (c : Cluster) → well_formed c ≡ true → save_of c ≡ form_by true c ++ text_of (all_frames (newest).widths (take c.count c.servers))
 a_brief_form_is_the_first_frame = trace_facts.brief_begins
 
@@ -917,7 +917,7 @@ pub a_refusal_has_no_frames : (c : Cluster) (key value : ℕ) → is_refused (pl
     → planned_of c key value ≡ no_frames (planned_of c key value).answer
 a_refusal_has_no_frames = plans.refused_empty
 
--- from every record of a run it gets the cluster going, and from every well_formed one its steps are done, or the first that is refused gets 9
+-- from every record of a run it gets the cluster going, and from every well-formed one its steps are done, or the first that is refused gets 9
 pub a_cluster_gets_going : RecoveryPromised
 a_cluster_gets_going = recovery.recovery
 

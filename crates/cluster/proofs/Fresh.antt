@@ -28,7 +28,7 @@ use Rattle.mail.proofs.Ranges.{fits_zero_mail}
 use Rattle.cluster.specs.Ranges.{FitsServer, Fits}
 use Rattle.cluster.specs.WellFormed.{size_ok, well_formed}
 use Rattle.cluster.proofs.Changed.{changed_at}
-use Rattle.cluster.proofs.Good.{ServerGood, size_good, Good, well_formed}
+use Rattle.cluster.proofs.Good.{ServerGood, size_good, Good, well_formed_lem}
 
 -- ---- its servers
 
@@ -80,7 +80,7 @@ unfolding every count member is_within size_ok
 two_vote = refl
 
 pub well_formed_fresh : (n f : ℕ) → size_ok n f ≡ true → well_formed (fresh_cluster n f) ≡ true
-well_formed_fresh n f h = well_formed (fresh_cluster n f) (good_fresh n f h)
+well_formed_fresh n f h = well_formed_lem (fresh_cluster n f) (good_fresh n f h)
 
 -- ---- it fits
 

@@ -1,4 +1,4 @@
--- A well_formed record as facts: one field for each clause of 01, and back. Assumes nothing.
+-- A well-formed record as facts: one field for each clause of 01, and back. Assumes nothing.
 use mathlib.Core.Path.{◌≡◌, refl, ap, ◌∙◌}
 use mathlib.Core.Bool.{Bool, true, false, cond, not, ◌&&◌}
 use mathlib.Core.Logic.{⊎_elim}
@@ -7,7 +7,6 @@ use native.Mathlib.Omega.{arith}
 use lib.Dec.{eqb, leb}
 use lib.ListN.{length}
 use borrow.Author.Tests.{leb-true, le-leb, eqb-true, lt-ltb, le-ltb, not-true}
-use Rattle.base.specs.Numbers.{every}
 use Rattle.base.proofs.Bools.{and_both, and_left, and_right}
 use Rattle.base.proofs.Every.{every_at, every_all}
 use Rattle.base.proofs.Facts.{lt_or_le}
@@ -176,9 +175,9 @@ good c f h =
     beside : (i : ℕ) → i < c.count → i < most_servers → (mail_ok c.count i (server_at c i).mail && role_ok c.followers i (server_at c i)) ≡ true
     beside i l m = and_right (counted_ok (server_at c i)) _ (inside i l m)
 
-pub well_formed : (c : Cluster) → Good c → well_formed c ≡ true
+pub well_formed_lem : (c : Cluster) → Good c → well_formed c ≡ true
 unfolding well_formed server_ok
-well_formed c g =
+well_formed_lem c g =
     and_both _ _ g.size
     (every_all _ most_servers (λ i m. ⊎_elim (λ l. in_place i l) (λ l. past_place i l m) (lt_or_le i c.count)))
   where

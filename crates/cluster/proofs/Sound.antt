@@ -12,7 +12,7 @@ use Rattle.cluster.specs.Ranges.{FitsServer, Fits}
 use Rattle.cluster.specs.Servers.{most_servers, server_at}
 use Rattle.cluster.proofs.Good.{ServerGood, Good}
 
--- as every counted server i of a well_formed record of n that fits
+-- as every counted server i of a well-formed record of n that fits
 pub record ServerSound (n i : ℕ) (s : Server) : Type 0 where
   pub fits : FitsServer s
   pub good : ServerGood s

@@ -267,7 +267,7 @@ pub fn numbers_ok(s: Server) -> bool
     }
 }
 
-// Whether a counted server may stand in a well_formed record.
+// Whether a counted server may stand in a well-formed record.
 pub fn counted_ok(s: Server) -> bool
     ensures { result ≡ counted_ok s }
 {

@@ -1,4 +1,4 @@
--- The logs that refusal 2 lets through are just those that some well_formed record could hold. Assumes nothing.
+-- The logs that refusal 2 lets through are just those that some well-formed record could hold. Assumes nothing.
 use mathlib.Core.Path.{◌≡◌, refl, ap, sym, subst, ◌∙◌}
 use mathlib.Core.List.{List}
 use mathlib.Core.Bool.{false}
@@ -30,7 +30,7 @@ use Rattle.cluster.specs.Servers.{fewest_servers, most_servers, server_at, fresh
 use Rattle.cluster.specs.Ranges.{FitsServer, Fits}
 use Rattle.cluster.proofs.Changed.{replaced_here, replaced_others}
 use Rattle.cluster.proofs.Fresh.{good_fresh, fits_fresh, two_vote}
-use Rattle.cluster.proofs.Good.{ServerGood, Good, good, well_formed}
+use Rattle.cluster.proofs.Good.{ServerGood, Good, good, well_formed_lem}
 use Rattle.histories.specs.Committed.{Committed, committed_limit, entries_of}
 use Rattle.histories.proofs.Lent.{length_together}
 use Rattle.histories.specs.Obeying.{Together, LogFits, HeldBy}
@@ -120,7 +120,7 @@ module _ (es : List Entry) (short : length es ≤ committed_limit) (order : Orde
       record {
         cluster = record_of es;
         fits = fits_record;
-        well_formed = well_formed (record_of es) good_record;
+        well_formed = well_formed_lem (record_of es) good_record;
         server = 0;
         counted = omega arith;
         same = ap (λ (s : Server). live s.log) at_first ∙ live_log;

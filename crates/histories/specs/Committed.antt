@@ -1,4 +1,4 @@
--- A committed log, lent as five lists, one a field: its entries, and whether a well_formed record could hold them. Assumes nothing.
+-- A committed log, lent as five lists, one a field: its entries, and whether a well-formed record could hold them. Assumes nothing.
 use Rattle.std.specs.Prelude.{List, [], ◌∷◌, Bool, ◌&&◌, ℕ, eqb, leb, length}
 use Rattle.clock.specs.Times.{limit}
 use Rattle.server_log.specs.declared.Entry.{Entry}
@@ -39,6 +39,6 @@ same_lengths g =
     && (eqb (length g.values) (length g.terms)
     && (eqb (length g.ps) (length g.terms) && eqb (length g.ls) (length g.terms)))
 
--- a well_formed record could hold the log: not too long, and every entry may stand in its place at a server of some term
+-- a well-formed record could hold the log: not too long, and every entry may stand in its place at a server of some term
 unfoldable pub could_hold : Committed → Bool
 could_hold g = same_lengths g && (leb (length g.terms) committed_limit && in_order limit (entries_of g))

@@ -78,13 +78,13 @@ pub record Together (g : Committed) : Type 0 where
   pub ps : length g.ps ≡ length g.terms
   pub ls : length g.ls ≡ length g.terms
 
--- a well_formed record could hold the log: its five lists are of one length, not too long, and its entries in order
+-- a well-formed record could hold the log: its five lists are of one length, not too long, and its entries in order
 pub record LogFits (g : Committed) : Type 0 where
   pub together : Together g
   pub short : length g.terms ≤ committed_limit
   pub order : in_order limit (entries_of g) ≡ true
 
--- a counted server of a well_formed record holds the entries
+-- a counted server of a well-formed record holds the entries
 pub record HeldBy (es : List Entry) : Type 0 where
   pub cluster : Cluster
   pub fits : Fits cluster
@@ -119,7 +119,7 @@ pub record Names (g : Committed) (rs : List PhoneRecord) (n : ℕ) : Type 0 wher
   pub breaks : Obeys (entries_of g) rs n → ⊥
   pub before : (i : ℕ) → i < n → Obeys (entries_of g) rs i
 
--- 2 is given for a log that no well_formed record could hold, and otherwise 3 for a list that isn't in range
+-- 2 is given for a log that no well-formed record could hold, and otherwise 3 for a list that isn't in range
 abbrev pub Refuses : Committed → List PhoneRecord → Refusal → Type 0
 Refuses g rs x = ((x ≡ IllFormed) × (LogFits g → ⊥)) ⊎ ((x ≡ OutOfRange) × LogFits g × (ListFits rs → ⊥))
 

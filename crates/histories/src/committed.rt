@@ -81,7 +81,7 @@ fn in_order(terms: &[u16], keys: &[u8], values: &[u16], ps: &[u16], ls: &[u16]) 
     true
 }
 
-// Whether a well_formed record could hold the log.
+// Whether a well-formed record could hold the log.
 pub(crate) fn could_hold(terms: &[u16], keys: &[u8], values: &[u16], ps: &[u16], ls: &[u16]) -> bool
     ensures { result ≡ could_hold (lent terms.now keys.now values.now ps.now ls.now) }
 {

@@ -1,4 +1,4 @@
--- The counted servers of a well_formed record that fits, as a list. Assumes nothing.
+-- The counted servers of a well-formed record that fits, as a list. Assumes nothing.
 use mathlib.Core.Path.{◌≡◌, ◌∙◌}
 use mathlib.Core.List.{List}
 use Prim.Native.Nat.{ℕ, ◌<◌}

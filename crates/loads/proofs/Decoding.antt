@@ -202,7 +202,7 @@ first_counts {w} l edition size followers h =
 abbrev unrowed_all : Cluster → Cluster
 unrowed_all c = record { count = c.count; followers = c.followers; servers = map unrowed c.servers }
 
--- the frames of a well_formed record that fits decode to it, but for its rows, in every edition that tells its followers
+-- the frames of a well-formed record that fits decode to it, but for its rows, in every edition that tells its followers
 frames_decoded : (e : Edition) → Lawful e.widths → (c : Cluster) → Sound c → allows_followers e.widths c.followers ≡ true → (decoded_by e.widths fresh_draft (frames_of e c)).cluster ≡ unrowed_all c
 frames_decoded e l c h told =
     let whole =
@@ -232,7 +232,7 @@ rowed_again c h =
     again : (i : ℕ) → i < most_servers → rowed_of (unrowed (server_at c i)) ≡ server_at c i
     again i m = ap (with_rows (server_at c i)) (sym (rows_are (h.fits.each i m).rows (sound_rows h i m)))
 
--- THE LAW: the saved form of a well_formed record that fits decodes to it, where its followers are told
+-- THE LAW: the saved form of a well-formed record that fits decodes to it, where its followers are told
 pub saved_decoded : (e : Edition) → Lawful e.widths → e.number < byte → (c : Cluster) → Fits c → well_formed c ≡ true → allows_followers e.widths c.followers ≡ true
     → decoded_in e.widths (saved_as e c) ≡ c
 unfolding drafted_in decoded_in

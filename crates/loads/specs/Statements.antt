@@ -60,7 +60,7 @@ module _ (knows : List Edition) where
 
 -- ---- of the program
 
--- reading gives back every well_formed record
+-- reading gives back every well-formed record
 abbrev pub GivesBack : Type 0
 GivesBack = (c d : Cluster) → Fits d → well_formed d ≡ true → load_of c (save_of d) ≡ loaded d
 

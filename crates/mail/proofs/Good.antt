@@ -1,4 +1,4 @@
--- Mail that a well_formed record may hold, as facts: one for each clause of 02, and back. Assumes nothing.
+-- Mail that a well-formed record may hold, as facts: one for each clause of 02, and back. Assumes nothing.
 use mathlib.Core.Path.{◌≡◌, ap}
 use mathlib.Core.Bool.{true, not, ◌&&◌}
 use mathlib.Core.Logic.{◌⊎◌, inl, inr, ◌≢◌, ⊎_elim}

@@ -1,4 +1,4 @@
--- Which mail a well_formed record may hold, as 02 words it. Assumes nothing.
+-- Which mail a well-formed record may hold, as 02 words it. Assumes nothing.
 use Rattle.std.specs.Prelude.{Bool, cond, not, ◌&&◌, ◌||◌, ℕ, suc, eqb, ltb, leb}
 use Rattle.base.specs.Numbers.{every}
 use Rattle.server_log.specs.Logs.{highest_position}

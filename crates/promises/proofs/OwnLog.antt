@@ -1,4 +1,4 @@
--- What a commit point covers, lent as a log, is one to check against: a well_formed record holds it, and no reached entry is at (0,0).
+-- What a commit point covers, lent as a log, is one to check against: a well-formed record holds it, and no reached entry is at (0,0).
 -- Assumes nothing.
 use mathlib.Core.Path.{◌≡◌, refl, sym, ap, ◌∙◌}
 use mathlib.Core.Bool.{true}

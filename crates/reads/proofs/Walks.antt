@@ -1,4 +1,4 @@
--- In a well_formed record kinds 10 and 11 answer what a walking read finds, as 01 words it; and all values at once are their answers. Assumes nothing.
+-- In a well-formed record kinds 10 and 11 answer what a walking read finds, as 01 words it; and all values at once are their answers. Assumes nothing.
 use mathlib.Core.Path.{◌≡◌}
 use mathlib.Core.Bool.{false}
 use Prim.Native.Nat.{ℕ, ◌≤◌}

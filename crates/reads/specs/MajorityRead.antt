@@ -17,11 +17,11 @@ use Rattle.reads.specs.LocalRead.{read_rules}
 abbrev pub commit_time : Server → Time
 commit_time s = (entry_at (live s.log) s.head.commit).time
 
--- the first commit_point entries
+-- the first commit-point entries
 abbrev pub covered : Server → List Entry
 covered s = take s.head.commit (live s.log)
 
--- the value of the last entry for the key in the first commit_point entries, which their row has, with the commit time
+-- the value of the last entry for the key in the first commit-point entries, which their row has, with the commit time
 abbrev pub majority_rules : Server → ℕ → Time → Rules
 majority_rules s key asked = read_rules key (commit_time s) asked
 

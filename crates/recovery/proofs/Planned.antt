@@ -1,4 +1,4 @@
--- From every well_formed record none of the plan's steps is refused, or the first that is gets refusal 9. Assumes nothing.
+-- From every well-formed record none of the plan's steps is refused, or the first that is gets refusal 9. Assumes nothing.
 use mathlib.Core.Path.{◌≡◌, ap, sym, subst}
 use mathlib.Core.List.{List, [], ◌∷◌}
 use mathlib.Core.Logic.{inl}

@@ -24,7 +24,7 @@ use Rattle.server_log.proofs.Positions.{same_first}
 use Rattle.cluster.specs.declared.Cluster.{Cluster}
 use Rattle.cluster.specs.Servers.{server_count, server_at}
 use Rattle.cluster.specs.WellFormed.{well_formed}
-use Rattle.cluster.proofs.Good.{size_good, good, well_formed}
+use Rattle.cluster.proofs.Good.{size_good, good, well_formed_lem}
 use Rattle.steps.specs.declared.Answer.{Answer}
 use Rattle.steps.specs.declared.Answer.TheVariants as A
 use Rattle.steps.specs.declared.Outcome.{Outcome}
@@ -203,7 +203,7 @@ none_first c (s ∷ ss) h = rw h.0 (none_first (step_of c s).cluster ss h.1)
 
 module _ {n f : ℕ} {c : Cluster} {key value : ℕ} (h : Stands n f c) (asked : Asked c key value) where
   given_by : planned_of c key value ≡ frames_by (first_refused c (plan_for c key value)) (no_frames A.Done) (plan_for c key value)
-  given_by = planned_is c key value (well_formed c h.good) asked.a_key asked.a_value asked.room asked.low
+  given_by = planned_is c key value (well_formed_lem c h.good) asked.a_key asked.a_value asked.room asked.low
 
   short : length (plan_for c key value) ≤ 4 * c.count
   short =

@@ -18,7 +18,7 @@ use Rattle.cluster.specs.Servers.{most_servers, server_count, server_at, with_ma
 use Rattle.cluster.specs.Sets.{votes, voters}
 use Rattle.cluster.specs.WellFormed.{well_formed}
 use Rattle.cluster.proofs.Changed.{replaced_here, replaced_others}
-use Rattle.cluster.proofs.Good.{Good, size_good, well_formed}
+use Rattle.cluster.proofs.Good.{Good, size_good, well_formed_lem}
 use Rattle.steps.specs.Answers.{is_refused}
 use Rattle.steps.specs.declared.Outcome.{Outcome}
 use Rattle.steps.specs.declared.Sends.TheVariants.{To}
@@ -66,7 +66,7 @@ module _ {n f : ℕ} {c : Cluster} (h : Stands n f c) where
   in_count i l = rw counts_n (lt-ltb i n l)
 
   pub is_seen : (s : Step) → (is_start s || well_formed c) ≡ true
-  is_seen s = or_right (is_start s) _ (well_formed c h.good)
+  is_seen s = or_right (is_start s) _ (well_formed_lem c h.good)
 
   pub place : (i : ℕ) → i < n → i < length c.servers
   place i l = omega (arith, h.fits.slots, h.few)

@@ -1,5 +1,5 @@
 -- How to get going again: from every record that a run reaches, where no log is full and no number at its limit, the plan's steps are all done, and
--- afterwards the cluster is going; from every well_formed record the first that is refused gets refusal 9.
+-- afterwards the cluster is going; from every well-formed record the first that is refused gets refusal 9.
 -- Assumes nothing.
 use Rattle.std.specs.Prelude.{◌≡◌, ◌≢◌, ◌⊎◌, true, false, List, [], ◌∷◌, map, ℕ, ◌≤◌, ◌<◌, ◌*◌, length}
 use Rattle.clock.specs.Times.{limit}
@@ -83,7 +83,7 @@ pub record Recovers (c : Cluster) (key value : ℕ) : Type 0 where
 abbrev pub RecoveryPromised : Type 0
 RecoveryPromised = (c : Cluster) (key value : ℕ) → FromFresh c → Asked c key value → Recovers c key value
 
--- ---- from every well_formed record
+-- ---- from every well-formed record
 
 -- the frames are given, and none is refused; or none are given, and the first that is refused gets refusal 9
 abbrev pub OnlyNine : Type 0

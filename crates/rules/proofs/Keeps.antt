@@ -1,4 +1,4 @@
--- Every step that fits keeps what the types give and well-formedness, from every well_formed record, reached or not. Assumes nothing.
+-- Every step that fits keeps what the types give and well-formedness, from every well-formed record, reached or not. Assumes nothing.
 use mathlib.Core.Path.{◌≡◌, refl, ap, sym}
 use mathlib.Core.Bool.{Bool, true, false, cond, not, ◌||◌}
 use mathlib.Core.Logic.{◌≢◌, inl, inr, ⊎_elim}
@@ -25,7 +25,7 @@ use Rattle.cluster.specs.Servers.{fresh_cluster, server_count, zero_server, serv
 use Rattle.cluster.specs.Sets.{member}
 use Rattle.cluster.specs.WellFormed.{well_formed}
 use Rattle.cluster.proofs.Fresh.{good_fresh, fits_fresh}
-use Rattle.cluster.proofs.Good.{size_good, Good, good, well_formed}
+use Rattle.cluster.proofs.Good.{size_good, Good, good, well_formed_lem}
 use Rattle.cluster.proofs.Masks.{within_member, apart_member}
 use Rattle.steps.specs.declared.Outcome.{Outcome}
 use Rattle.steps.specs.declared.Sends.TheVariants.{Nothing, To}
@@ -213,7 +213,7 @@ pub step_good : (c : Cluster) (s : Step) → Fits c → FitsStep s → Good c �
 step_good c s f fs g = ⊎_elim (λ d. (step_sound c s f fs d).good) (λ d. rw d.is g) (step_cases c s)
 
 pub step_well_formed : (c : Cluster) (s : Step) → Fits c → FitsStep s → well_formed c ≡ true → well_formed (step_of c s).cluster ≡ true
-step_well_formed c s f fs w = well_formed (step_of c s).cluster (step_good c s f fs (good c f w))
+step_well_formed c s f fs w = well_formed_lem (step_of c s).cluster (step_good c s f fs (good c f w))
 
 -- a start that succeeds gives the fresh cluster, which is well formed, from any record
 pub start_fresh : (c : Cluster) (n f : ℕ) → Clear (start_rules n f) → (step_of c (Start n f)).cluster ≡ fresh_cluster n f

@@ -1,4 +1,4 @@
--- A well_formed record stays one where a counted server is replaced by one that may stand there, and where every server is changed. Assumes nothing.
+-- A well-formed record stays one where a counted server is replaced by one that may stand there, and where every server is changed. Assumes nothing.
 use mathlib.Core.Path.{◌≡◌, ap, sym, ◌∙◌, subst}
 use mathlib.Core.Bool.{true, false}
 use mathlib.Core.Logic.{⊎_elim}

@@ -1,4 +1,4 @@
--- Each public function's contract allows one_lem result, whatever the arguments. Assumes nothing.
+-- Each public function's contract allows one result, whatever the arguments. Assumes nothing.
 use Prim.Native.Nat.{ℕ}
 use Rattle.base.proofs.Results.{OneResult, one_result}
 use Rattle.cluster.specs.declared.Cluster.{Cluster}

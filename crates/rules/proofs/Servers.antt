@@ -1,4 +1,4 @@
--- A counted server of a well_formed record stays one, kind by kind, where its rules are clear. Assumes nothing.
+-- A counted server of a well-formed record stays one, kind by kind, where its rules are clear. Assumes nothing.
 use mathlib.Core.Path.{◌≡◌, refl, ap, sym, ◌∙◌, subst}
 use mathlib.Core.Bool.{Bool, true, false, cond, ◌&&◌, ◌||◌}
 use mathlib.Core.Logic.{◌≢◌, ⊎_elim}

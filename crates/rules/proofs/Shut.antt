@@ -109,7 +109,7 @@ unvarying_differs p t h = go t refl
     go (T.Numbers n term time) is = number (eqb n 41) n term time refl is
     go (T.Refusing r) is = at_written (λ e. let z : ◌≡◌ {A = ℕ} 0 1 = cc in omega arith)
 
--- one that leaves every well_formed record as it is, whatever it does with others: the election changes the fresh cluster
+-- one that leaves every well-formed record as it is, whatever it does with others: the election changes the fresh cluster
 pub echoing_differs : (p : Program) → ((c : Cluster) (s : Step) → well_formed c ≡ true → (p c s).cluster ≡ c) → Differs p
 echoing_differs p h = record { from = fresh; takes = election; differs = same }
   where
@@ -130,7 +130,7 @@ says_one_lem a = unvarying_differs (says_one a) (telling_of a) (λ c s. refl)
 pub leaves_all_lem : Differs leaves_all
 leaves_all_lem = echoing_differs leaves_all (λ c s w. refl)
 
--- a well_formed record has a count of at least 2
+-- a well-formed record has a count of at least 2
 echoed : (c : Cluster) (s : Step) → well_formed c ≡ true → (echoes_later c s).cluster ≡ c
 unfolding well_formed
 echoed c s w = rw (ne_eqb c.count 0 (λ z. omega (arith, (size_good {f = c.followers} (and_left _ _ w)).at_least_two))) refl

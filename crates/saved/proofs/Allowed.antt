@@ -1,4 +1,4 @@
--- The newest edition has a form for every well_formed record, and no edition has one for another. Assumes nothing.
+-- The newest edition has a form for every well-formed record, and no edition has one for another. Assumes nothing.
 use mathlib.Core.Path.{◌≡◌, refl, ap}
 use mathlib.Core.Bool.{Bool, true, false, cond, ◌&&◌}
 use mathlib.Core.Logic.{⊎_elim}

@@ -133,7 +133,7 @@ server_length {s} k slots =
       k.reports,
     )
 
--- ---- a well_formed record
+-- ---- a well-formed record
 
 counted_small : (n i : ℕ) {s : Server} → n ≤ most_servers → counted_ok s ≡ true → mail_ok n i s.mail ≡ true → Small s
 unfolding counted_ok log_ok numbers_ok mail_ok queue_ok

@@ -1,4 +1,4 @@
--- Each public function's contract allows_lem one result, whatever the arguments, and one content of a lent buffer. Assumes nothing.
+-- Each public function's contract allows one result, whatever the arguments, and one content of a lent buffer. Assumes nothing.
 use contract.Lifetimes.{Lfts}
 use denote.Ref.{Bor}
 use mathlib.Core.List.{List}

@@ -28,7 +28,7 @@ pub record Written (out₀ : List ℕ) (at₀ : ℕ) (out : List ℕ) (at : ℕ)
   pub next : at ≡ at₀ + length (text_of fs)
   pub within : at ≤ length out₀
 
--- a server whose numbers have room in their fields, as a well_formed record's have
+-- a server whose numbers have room in their fields, as a well-formed record's have
 pub record Small (s : Server) : Type 0 where
   pub entries : s.log.len ≤ log_limit
   pub reports : s.mail.queue.len ≤ queue_limit
@@ -57,7 +57,7 @@ unfoldable pub saved_as_out : ℕ → Cluster → List ℕ → List ℕ
 saved_as_out n c out =
     cond (is_known editions n && has_form (edition_numbered editions n) c) (cond (ltb (length out) longest) out (placed out 0 (saved_as (edition_numbered editions n) c))) out
 
--- in the newest, which has a form for every well_formed record
+-- in the newest, which has a form for every well-formed record
 unfoldable pub saved_of : Cluster → ℕ → Saved
 saved_of c room = cond (well_formed c) (cond (ltb room longest) NoRoom (Text (length (save_of c)))) (Refused IllFormed)
 

@@ -457,7 +457,7 @@ pub fn save_as(edition: u8, c: Cluster, out: &mut [u8]) -> Saved
     Saved::Text(end)
 }
 
-// The same in the newest edition, which has a form for every well_formed record.
+// The same in the newest edition, which has a form for every well-formed record.
 pub fn save(c: Cluster, out: &mut [u8]) -> Saved
     ensures result { result ≡ saved_of c (length out.old) }
     ensures output { out.new ≡ saved_out c out.old }

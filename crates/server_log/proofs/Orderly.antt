@@ -1,4 +1,4 @@
--- A log that a well_formed record may hold, as facts: one for each clause of 01, and back. Assumes nothing.
+-- A log that a well-formed record may hold, as facts: one for each clause of 01, and back. Assumes nothing.
 use mathlib.Core.Path.{◌≡◌, refl, ap, sym, ◌∙◌}
 use mathlib.Core.List.{List, [], ◌∷◌}
 use mathlib.Core.Bool.{true, false, ◌&&◌, ◌||◌}

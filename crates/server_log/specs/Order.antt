@@ -1,4 +1,4 @@
--- Which logs a well_formed record may hold, as 01 words it, and 02 for entries that write nothing. Assumes nothing.
+-- Which logs a well-formed record may hold, as 01 words it, and 02 for entries that write nothing. Assumes nothing.
 use Rattle.std.specs.Prelude.{List, [], ◌∷◌, Bool, true, ◌&&◌, ◌||◌, ℕ, suc, eqb, leb, length, drop}
 use Rattle.base.specs.Numbers.{every}
 use Rattle.clock.specs.Times.{is_before}

@@ -345,7 +345,7 @@ pub fn is_empty_log(g: Log) -> bool
     rest_zero(g, 0)
 }
 
-// Whether a well_formed record may hold the log at a server of this term.
+// Whether a well-formed record may hold the log at a server of this term.
 pub fn log_ok(g: Log, term: u16) -> bool
     ensures { result ≡ log_ok term g }
 {

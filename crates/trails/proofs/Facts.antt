@@ -39,7 +39,7 @@ module _ (brief : Bool) (c d : Cluster) where
 pub refused_none : (brief : Bool) (c : Cluster) (line : List ℕ) (r : Refusal) → (answer_to c line).answer ≡ Refused r → change_of brief c (answer_to c line).cluster ≡ []
 refused_none brief c line r e = change_none brief c (answer_to c line).cluster (ap (form_by brief) (sym (refused_line c line r e)))
 
--- the brief form of a well_formed record is what its saved form begins with
+-- the brief form of a well-formed record is what its saved form begins with
 pub brief_begins : (c : Cluster) → well_formed c ≡ true → save_of c ≡ form_by true c ++ text_of (all_frames newest.widths (take c.count c.servers))
 unfolding well_formed size_ok form_by first_frame_of save_of
 brief_begins c w =

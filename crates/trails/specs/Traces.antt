@@ -16,7 +16,7 @@ use Rattle.trails.specs.declared.Wanted.{Wanted}
 unfoldable pub first_frame_of : Cluster → List ℕ
 first_frame_of c = cond (eqb (server_count c) 0) [] (text_of (first_frame newest.widths newest.number (server_count c) c.followers ∷ []))
 
--- the form of a record in a trace: that frame where the trace is brief, and else its saved form, which a well_formed record has
+-- the form of a record in a trace: that frame where the trace is brief, and else its saved form, which a well-formed record has
 unfoldable pub form_by : Bool → Cluster → List ℕ
 form_by brief c = cond brief (first_frame_of c) (cond (well_formed c) (save_of c) [])
 
