@@ -1,6 +1,7 @@
 -- Each public function's contract allows one result, whatever the arguments, and one content of a lent buffer. Assumes nothing.
 use contract.Lifetimes.{Lfts}
-use denote.Ref.{Bor}
+use denote.Bor.{Bor}
+use denote.MutBor.{MutBor}
 use mathlib.Core.List.{List}
 use Prim.Native.Nat.{ℕ}
 use Rattle.base.proofs.Results.{OneOutcome, OneResult, one_buffer, one_result}
@@ -25,8 +26,8 @@ byte_of_lem h l = one_result (byte_of h l)
 pub all_hex_lem : (κs : Lfts 1) (line : Bor (List ℕ)) → OneResult (λ x. all_hex_reads.Learnt κs (line, tt) x (line, tt))
 all_hex_lem κs line = one_result (all_hex line.now)
 
-pub unhex_lem : (κs : Lfts 2) (line out : Bor (List ℕ)) → OneOutcome (λ x o. unhex_reads.Learnt κs (line, (out, tt)) x (line, (o, tt)))
+pub unhex_lem : (κs : Lfts 2) (line : Bor (List ℕ)) (out : MutBor (List ℕ)) → OneOutcome (λ x o. unhex_reads.Learnt κs (line, (out, tt)) x (line, (o, tt)))
 unhex_lem κs line out = one_buffer (over (bytes_of line.now) out.now)
 
-pub enhex_lem : (κs : Lfts 2) (bytes out : Bor (List ℕ)) → OneOutcome (λ x o. enhex_reads.Learnt κs (bytes, (out, tt)) x (bytes, (o, tt)))
+pub enhex_lem : (κs : Lfts 2) (bytes : Bor (List ℕ)) (out : MutBor (List ℕ)) → OneOutcome (λ x o. enhex_reads.Learnt κs (bytes, (out, tt)) x (bytes, (o, tt)))
 enhex_lem κs bytes out = one_buffer (over (hex_of bytes.now) out.now)

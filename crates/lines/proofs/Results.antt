@@ -9,7 +9,7 @@ use prog.Memory.{Memory}
 use prog.Routine.{Routine}
 use types.Logic.{Logic}
 use contract.Monad.{Fun, fact}
-use denote.Ref.{Bor}
+use denote.MutBor.{MutBor}
 use Rattle.base.proofs.Results.{OneResult, one_result}
 use Rattle.lines.specs.declared.Reader.{Reader}
 use Rattle.lines.specs.declared.End.{End}
@@ -38,12 +38,12 @@ is_input_lem end = one_result (is_input end)
 pub one_more_lem : (n : ℕ) → OneResult (λ x. one_more_reads.Learnt tt (n, tt) x (n, tt))
 one_more_lem n = one_result (one_more n)
 
-module _ (r : Bor Reader) (b : ℕ) where
+module _ (r : MutBor Reader) (b : ℕ) where
   -- what is allowed of the lent reader at the end
   abbrev pub Allowed_lem : Reader → Type 0
   Allowed_lem q = q ≡ reader_after r.now b
 
-  pub take_says_lem : {M : Type 1} {𝓤 : Ura M} (𝓛 : Logic 𝓤) (at_mem : Memory → SProp 𝓤) (run : Routine → Fun 𝓤) (κ : Lft) (o : Bor Reader)
+  pub take_says_lem : {M : Type 1} {𝓤 : Ura M} (𝓛 : Logic 𝓤) (at_mem : Memory → SProp 𝓤) (run : Routine → Fun 𝓤) (κ : Lft) (o : MutBor Reader)
       → (the_take.clauses 𝓛 at_mem run (κ, tt) (r, (b, tt))).ensures tt tt (o, (b, tt))
       ≡ fact 𝓤 (Allowed_lem o.now)
   take_says_lem 𝓛 at_mem run κ o = refl
