@@ -1,6 +1,5 @@
 -- Laws of the check of the phones' records. Assumes nothing.
 pub mod Lent
-pub mod Slices
 pub mod Searching
 pub mod Breakers
 pub mod Carrying
