@@ -9,9 +9,7 @@ use mathlib.Core.Bool.{false}
 use mathlib.Core.List.{List, [], ◌∷◌}
 use mathlib.Core.Path.{◌≡◌, refl, sym, ap}
 use Prim.Native.Nat.{ℕ}
-use borrow.Author.Rules.{rules}
-use Rattle.rules.proofs.is_start.Statement.{statement}
-use Rattle.rules.proofs.is_start.Tie as tie
+use Rattle.rules.proofs.is_start.Goals as goal
 
 -- the places of all other kinds among the variants
 abbrev others : List ℕ
@@ -36,14 +34,8 @@ no_start (WritesNothing a) h = refl
 no_start (NewestRead a key position term) h = refl
 no_start (TakesReport a) h = refl
 
-enum_told : tie.Need-enum-told
-enum_told c = search rules
+pub returns-in-Start : goal.returns-in-Start
+returns-in-Start c = sym (ap is_start c.in-Start.is)
 
-returns : tie.Need-returns
-returns c = sym (ap is_start c.enum_told.given.1)
-
-returns-2 : tie.Need-returns-2
-returns-2 c = no_start c.before.args.step c.match.keys2
-
-pub is-start-spec : {M : Type 1} → statement M
-is-start-spec = tie.close (tie.spec enum_told returns returns-2)
+pub returns-in_default : goal.returns-in_default
+returns-in_default c = no_start c.args.step c.in_default.keys2
