@@ -19,10 +19,10 @@ pub returns-then-b-ge-MOST_SERVERS : goal.returns-then-b-ge-MOST_SERVERS
 unfolding delivered
 returns-then-b-ge-MOST_SERVERS c =
     let h : length c.args.c.servers ≡ 7 = search (rules, mapped_long) in
-    let e = set_out c.args.c.servers c.sends-1.given.0.0 (with_mail (server_at c.args.c c.sends-1.given.0.0) (received (server_at c.args.c c.sends-1.given.0.0).mail c.sends-1.given.0.1.0)) (omega arith) in
-    sym (ap (delivered c.args.c) c.sends-1.given.1 ∙ (λ i. record { count = c.args.c.count; followers = c.args.c.followers; servers = e i }))
+    let e = set_out c.args.c.servers c.in-To.b (with_mail (server_at c.args.c c.in-To.b) (received (server_at c.args.c c.in-To.b).mail c.in-To.r)) (omega arith) in
+    sym (ap (delivered c.args.c) c.in-To.is ∙ (λ i. record { count = c.args.c.count; followers = c.args.c.followers; servers = e i }))
 
 pub returns : goal.returns
 unfolding delivered
 returns c =
-    c.with_server.ensures ∙ ap (λ (m : Mail). with_server c.args.c c.sends-1.given.0.0 (with_mail (server_at c.args.c c.sends-1.given.0.0) m)) c.received-told.ensures ∙ sym (ap (delivered c.args.c) c.sends-1.given.1)
+    c.with_server.ensures ∙ ap (λ (m : Mail). with_server c.args.c c.in-To.b (with_mail (server_at c.args.c c.in-To.b) m)) c.received-told.ensures ∙ sym (ap (delivered c.args.c) c.in-To.is)

@@ -10,8 +10,8 @@ returns-then-is_start c = rw (sym c.is_start.ensures ∙ c.if-is_start.true) c.c
 
 pub returns-then-not-well_formed : goal.returns-then-not-well_formed
 unfolding step_of
-returns-then-not-well_formed c = rw (sym c.is_start.ensures ∙ c.if-is_start.false, said_no _ _ c.well-formed-2.ensures c.if-not-well_formed.true) c.refuse_all.ensures
+returns-then-not-well_formed c = rw (sym c.is_start.ensures ∙ c.if-is_start.false, said_no _ _ c.well_formed-2.ensures c.if-not-well_formed.true) c.refuse_all.ensures
 
 pub returns : goal.returns
 unfolding step_of
-returns c = rw (sym c.is_start.ensures ∙ c.if-is_start.false, said_yes _ _ c.well-formed-2.ensures c.if-not-well_formed.false) c.core-2.ensures
+returns c = rw (sym c.is_start.ensures ∙ c.if-is_start.false, said_yes _ _ c.well_formed-2.ensures c.if-not-well_formed.false) c.core-2.ensures
