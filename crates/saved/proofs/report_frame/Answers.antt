@@ -8,9 +8,7 @@ use Rattle.mail.specs.Reports.{note_of}
 use Rattle.saved.specs.declared.Sort.TheVariants as S
 use Rattle.saved.specs.Layout.{field_bytes, sort_number, told_numbers, report_frame}
 use Rattle.saved.specs.Editions.{widths1}
-use borrow.Author.Rules.{rules}
-use Rattle.saved.proofs.report_frame.Statement.{statement}
-use Rattle.saved.proofs.report_frame.Tie as tie
+use Rattle.saved.proofs.report_frame.Goals as goal
 
 -- a report has a note's fields
 as-told : (r : Report) (k : ℕ) (n : Note) {f : List ℕ} → k ≡ sort_number S.Report → n ≡ note_of r → f ≡ k ∷ field_bytes (widths1 S.Note) (told_numbers r.who n)
@@ -18,18 +16,5 @@ as-told : (r : Report) (k : ℕ) (n : Note) {f : List ℕ} → k ≡ sort_number
 as-told r k n p q e =
     e ∙ ap (λ (x : ℕ). x ∷ field_bytes (widths1 S.Note) (told_numbers r.who n)) p ∙ ap (λ (m : Note). sort_number S.Report ∷ field_bytes (widths1 S.Report) (told_numbers r.who m)) q
 
-sort-number-requires : tie.Need-sort-number-requires
-sort-number-requires c κs = search rules
-
-note-of-requires : tie.Need-note-of-requires
-note-of-requires c κs = search rules
-
-told-frame-requires : tie.Need-told-frame-requires
-told-frame-requires c κs = search rules
-
-returns : tie.Need-returns
-returns c = as-told _ _ _ c.before.before.sort-number.ensures c.before.note-of.ensures c.told-frame.ensures
-
-pub report-frame-spec : {M : Type 1} → statement M
-report-frame-spec =
-    tie.close (tie.spec sort-number-requires note-of-requires told-frame-requires returns)
+pub returns : goal.returns
+returns c = as-told _ _ _ c.sort_number.ensures c.note_of.ensures c.told_frame.ensures

@@ -8,8 +8,7 @@ use lib.Dec.{eqb}
 use Rattle.server_log.specs.Logs.{log_limit, highest_position}
 use Rattle.saved.specs.declared.Limits.{Limits}
 use Rattle.saved.specs.Editions.{edition1, edition2, edition3, editions, newest, edition_numbered, limits_of}
-use Rattle.saved.proofs.limits_of.Statement.{statement}
-use Rattle.saved.proofs.limits_of.Tie as tie
+use Rattle.saved.proofs.limits_of.Goals as goal
 
 of-1 : (n : ℕ) → n ≡ 1 → limits_of edition1 ≡ limits_of (edition_numbered editions n)
 of-1 n e = rw (eq-eqb n 1 e)
@@ -23,11 +22,8 @@ of_other n e = rw (ne_eqb n 1 e) (go (eqb n 2) (eqb n 3))
     go false true = refl
     go false false = refl
 
-returns : tie.Need-returns
-returns c = of-1 _ c.if1.true
+pub returns-then-edition-eq-EDITION_1 : goal.returns-then-edition-eq-EDITION_1
+returns-then-edition-eq-EDITION_1 c = of-1 _ c.if-edition-eq-EDITION_1.true
 
-returns-2 : tie.Need-returns-2
-returns-2 c = of_other _ c.if1.false
-
-pub limits-of-spec : {M : Type 1} → statement M
-limits-of-spec = tie.close (tie.spec returns returns-2)
+pub returns : goal.returns
+returns c = of_other _ c.if-edition-eq-EDITION_1.false

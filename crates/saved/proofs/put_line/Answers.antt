@@ -14,8 +14,7 @@ use Rattle.lines.proofs.Placed.{placed_length, placed_set}
 use Rattle.saved.specs.Saved.{text_of}
 use Rattle.saved.specs.Written.{Written}
 use Rattle.saved.proofs.Texts.{text_length}
-use Rattle.saved.proofs.put_line.Statement.{statement}
-use Rattle.saved.proofs.put_line.Tie as tie
+use Rattle.saved.proofs.put_line.Goals as goal
 
 -- the characters in a part that is as long as they are, and then the line feed
 module _ (out : List ℕ) (at : ℕ) (f : List ℕ) (room : at + length (text_of (f ∷ [])) ≤ length out) where
@@ -49,55 +48,19 @@ module _ (out : List ℕ) (at : ℕ) (f : List ℕ) (room : at + length (text_of
         within = inside;
       }
 
--- the line ends within the buffer
-fits : (s : tie.Start) → s.args.at + chars * length s.args.frame.now + 1 ≤ length s.args.out.now
-fits s = inside s.args.out.now s.args.at s.args.frame.now s.requires
+pub overflow_add-end : goal.overflow_add-end
+overflow_add-end c = let h = inside c.args.out.now c.args.at c.args.frame.now c.requires in search rules
 
-mul-end : tie.Need-overflow-mul-end
-mul-end c = search rules
+pub slice_bounds-enhex-end : goal.slice_bounds-enhex-end
+slice_bounds-enhex-end c = let h : c.args.at + chars * length c.args.frame.now + 1 ≤ length c.args.out.now = inside c.args.out.now c.args.at c.args.frame.now c.requires in search rules
 
-add-end : tie.Need-overflow-add-end
-add-end c = let h = fits c.before.before in search rules
+pub bounds-out-end : goal.bounds-out-end
+bounds-out-end c =
+    below c.args.out.now c.args.at c.args.frame.now c.requires _ c.enhex.ensures
 
-sub-enhex : tie.Need-overflow-sub-enhex
-sub-enhex c = search rules
+pub overflow_add-result : goal.overflow_add-result
+overflow_add-result c = let h = inside c.args.out.now c.args.at c.args.frame.now c.requires in search rules
 
-part-enhex-start : tie.Need-slice-bounds-enhex-start
-part-enhex-start c = search rules
-
-part-enhex-end : tie.Need-slice-bounds-enhex-end
-part-enhex-end c = let h = fits c.before.before in search rules
-
-enhex-requires : tie.Need-enhex-requires
-enhex-requires c κs = search rules
-
-slice-write-out : tie.Need-slice-write-out
-slice-write-out c =
-    let s = c.before.before.before.before.before.before in
-    below s.args.out.now s.args.at s.args.frame.now s.requires _ c.before.before.enhex.ensures
-
-add-result : tie.Need-overflow-add-result
-add-result c = let h = fits c.before.before.before.before.before.before in search rules
-
-same_length : tie.Need-same-length
-same_length c = search rules
-
-returns : tie.Need-returns
+pub returns : goal.returns
 returns c =
-    let s = c.before.before.before.before.before.before in
-    line s.args.out.now s.args.at s.args.frame.now s.requires _ c.before.before.enhex.ensures
-
-pub put-line-spec : {M : Type 1} → statement M
-put-line-spec =
-    tie.close
-    (tie.spec
-    mul-end
-    add-end
-    sub-enhex
-    part-enhex-start
-    part-enhex-end
-    enhex-requires
-    slice-write-out
-    add-result
-    same_length
-    returns)
+    line c.args.out.now c.args.at c.args.frame.now c.requires _ c.enhex.ensures
