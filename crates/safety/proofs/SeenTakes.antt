@@ -121,3 +121,4 @@ module _ {𝓠 : Quorums} {u : ClusterSeen} (c : Cluster) (f : Fits c) (g : Good
   pub roll_not_9 : (a b : ℕ) → Broken (both_in_range c a b (roll_rules (server_at c a) (server_at c b))) BelowCommitPoint → ⊥
   roll_not_9 a b (later la (later lb (later ab (later secondary (later some (later low (later other (broken-here e)))))))) =
       omega (arith, common_covers a b la lb low, leb-false (server_at c a).head.commit (common (server_at c a) (server_at c b)) e)
+  roll_not_9 a b (later la (later lb (later ab (later secondary (later some (later low (later other (later _ k)))))))) = elim k [ ]
