@@ -31,11 +31,13 @@ module _ (n : ℕ) (b : Bool) (m : Refusal) (rs : Rules) (e : rises n ((b, m) �
   goes_on = and_right (leb n (rank_of m)) (rises (rank_of m) rs) e
 
 at_least : (n : ℕ) (rs : Rules) {q : Refusal} → rises n rs ≡ true → Applies rs q → n ≤ rank_of q
+at_least n [] {q = q} e x = elim x [ ]
 at_least n ((b, m) ∷ rs) e (first f) = begins n b m rs e
 at_least n ((b, m) ∷ rs) e (among a) =
     omega (arith, begins n b m rs e, at_least (rank_of m) rs (goes_on n b m rs e) a)
 
 foremost : (n : ℕ) (rs : Rules) {r q : Refusal} → rises n rs ≡ true → Broken rs r → Applies rs q → rank_of r ≤ rank_of q
+foremost n [] {r = r} {q = q} e x _ = elim x [ ]
 foremost n ((b, m) ∷ rs) e (here t) (first f) = omega arith
 foremost n ((b, m) ∷ rs) e (here t) (among a) = at_least (rank_of m) rs (goes_on n b m rs e) a
 foremost n ((b, m) ∷ rs) e (later t k) (first f) = absurd (true≢false (sym t ∙ f))

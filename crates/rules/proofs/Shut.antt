@@ -4,7 +4,7 @@ use mathlib.Core.Bool.{Bool, true, false, true≢false}
 use Prim.Native.Nat.{ℕ}
 use native.Mathlib.Omega.{arith}
 use lib.Dec.{eqb}
-use borrow.Author.Tests.{eqb-true, eqb-false, ne_eqb, leb-true}
+use borrow.Author.Tests.{eqb-true, eqb-false, ne_eqb}
 use Rattle.base.proofs.Bools.{and_left}
 use Rattle.base.specs.Numbers.{every, count, highest}
 use Rattle.base.specs.Lists.{each_from}

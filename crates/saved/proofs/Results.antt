@@ -1,6 +1,6 @@
 -- Each public function's contract allows one result, whatever the arguments, and one content of a lent buffer. Assumes nothing.
 use contract.Lifetimes.{Lfts}
-use denote.Ref.{Bor}
+use denote.Ref.{MutBor}
 use mathlib.Core.List.{List}
 use Prim.Native.Nat.{ℕ}
 use lib.ListN.{length}
@@ -35,8 +35,8 @@ first_bytes_lem n = one_result (size_of (edition_numbered editions n).widths S.F
 pub allows_lem : (n : ℕ) (c : Cluster) → OneResult (λ x. allows_reads.Learnt tt (n, (c, tt)) x (n, (c, tt)))
 allows_lem n c = one_result (Editions.allows (edition_numbered editions n) c)
 
-pub save_as_lem : (κs : Lfts 1) (n : ℕ) (c : Cluster) (out : Bor (List ℕ)) → OneOutcome (λ x o. save_as_reads.Learnt κs (n, (c, (out, tt))) x (n, (c, (o, tt))))
+pub save_as_lem : (κs : Lfts 1) (n : ℕ) (c : Cluster) (out : MutBor (List ℕ)) → OneOutcome (λ x o. save_as_reads.Learnt κs (n, (c, (out, tt))) x (n, (c, (o, tt))))
 save_as_lem κs n c out = one_outcome (saved_as_of n c (length out.now)) (saved_as_out n c out.now)
 
-pub save_lem : (κs : Lfts 1) (c : Cluster) (out : Bor (List ℕ)) → OneOutcome (λ x o. save_reads.Learnt κs (c, (out, tt)) x (c, (o, tt)))
+pub save_lem : (κs : Lfts 1) (c : Cluster) (out : MutBor (List ℕ)) → OneOutcome (λ x o. save_reads.Learnt κs (c, (out, tt)) x (c, (o, tt)))
 save_lem κs c out = one_outcome (saved_of c (length out.now)) (saved_out c out.now)

@@ -7,9 +7,9 @@ use Rattle.base.proofs.Highest.{highest_here, highest_down, highest_none}
 use Rattle.base.proofs.Counting.{count_none, count_yes, count_no}
 use Rattle.base.specs.Numbers.{count, highest}
 use native.Mathlib.Omega.{arith}
-use mathlib.Core.Bool.{◌&&◌}
+use mathlib.Core.Bool.{◌&&◌, false}
 use mathlib.Core.Path.{◌≡◌, ap, sym, ◌∙◌}
-use Prim.Native.Nat.{ℕ, ◌-◌}
+use Prim.Native.Nat.{ℕ}
 use borrow.Author.Rules.{rules}
 use Rattle.counts.proofs.advances.highest_passing.Goals.{After-loop-i, else-e-s, else-is_backer, then-e-s+else-voters-k, then-is_backer}
 use Rattle.counts.proofs.advances.highest_passing.Goals as goal
@@ -34,19 +34,29 @@ pub overflow_add-i : goal.overflow_add-i
 overflow_add-i c = omega (arith, c.server_count-size.ensures)
 
 pub loop-i-preserved : goal.loop-i-preserved
-loop-i-preserved c =
-    (
-      search rules,
-      elim c.if-is_backer.branch [ then-is_backer w ↦ omega arith | else-is_backer w ↦ omega arith ],
-      elim c.if-is_backer.branch [ then-is_backer w ↦ rw w.k-is (count_yes _ _ _ c.loop-i.invariant.2 (sym c.is_backer.ensures ∙ w.if-is_backer.true)) | else-is_backer w ↦ rw w.k-is (count_no _ _ _ c.loop-i.invariant.2 (sym c.is_backer.ensures ∙ w.if-is_backer.false)) ],
-    )
+loop-i-preserved c = (
+  search rules,
+  elim c.if-is_backer.branch [ then-is_backer w ↦ omega arith | else-is_backer w ↦ omega arith ],
+  elim c.if-is_backer.branch [ then-is_backer w ↦ rw w.k-is (count_yes _ _ _ c.loop-i.invariant.2 (sym c.is_backer.ensures ∙ w.if-is_backer.true)) | else-is_backer w ↦ rw w.k-is (count_no _ _ _ c.loop-i.invariant.2 (sym c.is_backer.ensures ∙ w.if-is_backer.false)) ],
+)
 
 pub overflow_mul-k : goal.overflow_mul-k
 overflow_mul-k c = omega (arith, c.server_count-size.ensures)
 
 pub loop-n-preserved : goal.loop-n-preserved
 loop-n-preserved c =
-    let no = elim c.if-e-s.branch [ then-e-s+else-voters-k w ↦ passes_few c.server_count-size.result c.args.followers c.args.s c.args.a c.loop-n.n c.entry_at-e.result c.loop-i.k (omega arith) c.loop-n.invariant.0 c.entry_at-e.ensures (backed c.before.before.before.before) (omega (arith, w.if-voters-k.false, c.voters-voters.ensures)) | else-e-s w ↦ passes_old c.server_count-size.result c.args.followers c.args.s c.args.a c.loop-n.n c.entry_at-e.result c.loop-i.k (omega arith) c.loop-n.invariant.0 c.entry_at-e.ensures (backed c.before.before.before.before) w.if-e-s.false ] in
+    let size = c.server_count-size.result in
+    let a = c.args in
+    let e = c.entry_at-e in
+    let counted = backed c.before.before.before.before in
+    let no : passes size a.followers a.s a.a c.loop-n.n ≡ false =
+    elim c.if-e-s.branch [
+      | then-e-s+else-voters-k w ↦
+          passes_few size a.followers a.s a.a c.loop-n.n e.result c.loop-i.k (omega arith) c.loop-n.invariant.0 e.ensures counted
+          (omega (arith, w.if-voters-k.false, c.voters-voters.ensures))
+      | else-e-s w ↦
+          passes_old size a.followers a.s a.a c.loop-n.n e.result c.loop-i.k (omega arith) c.loop-n.invariant.0 e.ensures counted w.if-e-s.false
+    ] in
     (omega (arith, c.loop-n.invariant.0), c.loop-n.invariant.1 ∙ highest_down _ _ no)
 
 pub returns-then-n-s : goal.returns-then-n-s

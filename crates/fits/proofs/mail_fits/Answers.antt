@@ -1,0 +1,16 @@
+-- `fits::mail_fits` meets its contract. Assumes nothing.
+use Rattle.base.proofs.Facts.{mapped_long}
+use native.Mathlib.Omega.{arith}
+use borrow.Author.Count.{below_more}
+use borrow.Author.Rules.{rules}
+use Rattle.fits.proofs.mail_fits.Goals as goal
+
+pub loop-i-init : goal.loop-i-init
+loop-i-init c = (search rules, λ j h. absurd (omega arith))
+
+pub loop-i-preserved : goal.loop-i-preserved
+loop-i-preserved c = (search rules, below_more _ _ c.loop-i.invariant.1 c.note_fits.ensures.fits_note)
+
+pub returns : goal.returns
+returns c =
+    record { value = c.queue_fits.ensures.value; fits_mail = record { slots = search (rules, mapped_long); each = λ i h. c.loop-i.invariant.1 i (omega arith); queue = c.queue_fits.ensures.fits_queue; source = search rules } }
