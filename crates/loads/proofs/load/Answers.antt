@@ -19,9 +19,7 @@ use Rattle.shapes.proofs.Named.{named}
 use Rattle.loads.specs.Decoded.{decoded_in}
 use Rattle.loads.specs.Loads.{same_text, loaded, load_for, load_of}
 use Rattle.loads.proofs.Loads.{shaped_known}
-use borrow.Author.Rules.{rules}
-use Rattle.loads.proofs.load.Statement.{statement}
-use Rattle.loads.proofs.load.Tie as tie
+use Rattle.loads.proofs.load.Goals as goal
 
 -- what the walk tells is the shape, and where that is right the edition
 module _ {s t : Shape} (text : List ℕ) (q : t ≡ walked s text) (r : s ≡ fresh_shape) where
@@ -56,59 +54,16 @@ module _ (c : Cluster) (text : List ℕ) where
       both true y o q = refl
       both false y o q = refl
 
-begin-requires : tie.Need-begin-requires
-begin-requires c κs = search rules
+pub returns-then-not-is_shaped : goal.returns-then-not-is_shaped
+returns-then-not-is_shaped c =
+    c.refuse_all.ensures ∙ no-shape _ _ (said_no _ _ (tells _ c.walk-shape.ensures c.begin.ensures c.is_shaped.ensures) c.if-not-is_shaped.true)
 
-walk-requires : tie.Need-walk-requires
-walk-requires c κs = search rules
+pub returns-then-not-saves_to : goal.returns-then-not-saves_to
+returns-then-not-saves_to c =
+    let s = said_yes _ _ (tells _ c.walk-shape.ensures c.begin.ensures c.is_shaped.ensures) c.if-not-is_shaped.false in
+    c.refuse_all-then-not-saves_to.ensures ∙ by-text _ _ {b = false} s (names _ c.walk-shape.ensures c.begin.ensures s) c.decode-d.ensures (sym (said_no _ _ c.saves_to.ensures c.if-not-saves_to.true))
 
-is-shaped-requires : tie.Need-is-shaped-requires
-is-shaped-requires c κs = search rules
-
-refuse-all-requires : tie.Need-refuse-all-requires
-refuse-all-requires c κs = search rules
-
-returns : tie.Need-returns
+pub returns : goal.returns
 returns c =
-    let b = c.before.before in
-    c.refuse-all.ensures ∙ no-shape _ _ (said_no _ _ (tells _ b.before.walk.ensures b.before.before.begin.ensures b.is-shaped.ensures) c.before.if1.true)
-
-decode-requires : tie.Need-decode-requires
-decode-requires c κs = search rules
-
-saves-to-requires : tie.Need-saves-to-requires
-saves-to-requires c κs = search rules
-
-refuse-all-requires-2 : tie.Need-refuse-all-requires-2
-refuse-all-requires-2 c κs = search rules
-
-returns-2 : tie.Need-returns-2
-returns-2 c =
-    let b = c.before.before.before.before in
-    let k = b.before.before.walk.ensures in
-    let g = b.before.before.before.begin.ensures in
-    let s = said_yes _ _ (tells _ k g b.before.is-shaped.ensures) b.if1.false in
-    c.refuse-all2.ensures ∙ by-text _ _ {b = false} s (names _ k g s) c.before.before.before.decode.ensures (sym (said_no _ _ c.before.before.saves-to.ensures c.before.if2.true))
-
-returns-3 : tie.Need-returns-3
-returns-3 c =
-    let b = c.before.before.before in
-    let k = b.before.before.walk.ensures in
-    let g = b.before.before.before.begin.ensures in
-    let s = said_yes _ _ (tells _ k g b.before.is-shaped.ensures) b.if1.false in
-    by-text _ _ {b = true} s (names _ k g s) c.before.before.decode.ensures (sym (said_yes _ _ c.before.saves-to.ensures c.if2.false))
-
-pub load_spec : {M : Type 1} → statement M
-load_spec =
-    tie.close
-    (tie.spec
-    begin-requires
-    walk-requires
-    is-shaped-requires
-    refuse-all-requires
-    returns
-    decode-requires
-    saves-to-requires
-    refuse-all-requires-2
-    returns-2
-    returns-3)
+    let s = said_yes _ _ (tells _ c.walk-shape.ensures c.begin.ensures c.is_shaped.ensures) c.if-not-is_shaped.false in
+    by-text _ _ {b = true} s (names _ c.walk-shape.ensures c.begin.ensures s) c.decode-d.ensures (sym (said_yes _ _ c.saves_to.ensures c.if-not-saves_to.false))

@@ -5,7 +5,7 @@ use mathlib.Core.List.{List}
 use Prim.Native.Nat.{ℕ, ◌*◌, ◌<◌}
 use native.Mathlib.Omega.{arith}
 use lib.Dec.{eqb}
-use lib.ListN.{length, replicate}
+use lib.ListN.{replicate}
 use Rattle.base.proofs.Bools.{said_no, said_yes, and_no}
 use Rattle.hex_text.specs.Lines.{chars, bytes_of, over}
 use Rattle.words.specs.Words.{byte_at, framed}
@@ -18,9 +18,7 @@ use Rattle.saved.specs.Written.{most_bytes}
 use Rattle.shapes.specs.Walk.{edition_for, is_next}
 use Rattle.shapes.proofs.Frames.{small, bytes_same, says_so, edition_same}
 use Rattle.shapes.proofs.Next.{reads_all}
-use borrow.Author.Rules.{rules}
-use Rattle.shapes.proofs.is_next.Statement.{statement}
-use Rattle.shapes.proofs.is_next.Tie as tie
+use Rattle.shapes.proofs.is_next.Goals as goal
 
 -- by the edition that a frame of the sort has with these bytes: a line that is no frame there; and one that is told by its bytes
 module _ (k : Sort) (n : ℕ) (line : List ℕ) {bs : List ℕ} {own : ℕ} (b : bs ≡ over (bytes_of line) (replicate most_bytes 0)) (o : own ≡ edition_for k n bs) where
@@ -50,63 +48,21 @@ module _ (k : Sort) (n : ℕ) (line : List ℕ) {bs : List ℕ} {own : ℕ} (b :
       other_way false true = refl
       other_way false false = refl
 
-bytes-in-requires : tie.Need-bytes-in-requires
-bytes-in-requires c κs = search rules
+pub overflow_mul-size_of : goal.overflow_mul-size_of
+overflow_mul-size_of c = omega (arith, small (reads_all c.edition_for-own.result) c.args.k, c.size_of.ensures)
 
-edition-for-requires : tie.Need-edition-for-requires
-edition-for-requires c κs = search rules
+pub returns-then-line-size_of : goal.returns-then-line-size_of
+returns-then-line-size_of c =
+    not-next c.args.k c.args.edition c.args.line.now c.bytes_in-b.ensures c.edition_for-own.ensures
+    (framed_other _ (says_so c.args.k) false _ (λ l. c.if-line-size_of.true (l ∙ ap (λ (n : ℕ). chars * n) (sym c.size_of.ensures))))
 
-size-of-requires : tie.Need-size-of-requires
-size-of-requires c κs = search rules
+pub returns-then-not-all_hex : goal.returns-then-not-all_hex
+returns-then-not-all_hex c =
+    not-next c.args.k c.args.edition c.args.line.now c.bytes_in-b.ensures c.edition_for-own.ensures
+    (framed_spoilt _ (says_so c.args.k) false _ (c.if-line-size_of.false ∙ ap (λ (n : ℕ). chars * n) c.size_of.ensures) (said_no _ _ c.all_hex.ensures c.if-not-all_hex.true))
 
-mul-if1 : tie.Need-overflow-mul-if1
-mul-if1 c = let a = c.before.before.before.before.args in omega (arith, small (reads_all c.before.edition-for.result) a.k, c.type_size.ensures)
-
--- as long as a frame has to be
-long : (c : tie.Else1) → length c.before.before.before.before.before.args.line.now ≡ chars * size_of (edition_numbered editions c.before.before.edition-for.result).widths c.before.before.before.before.before.args.k
-long c = c.if1.false ∙ ap (λ (n : ℕ). chars * n) c.before.type_size.ensures
-
-returns : tie.Need-returns
+pub returns : goal.returns
 returns c =
-    let e = c.before.before in
-    let a = e.before.before.before.args in
-    not-next a.k a.edition a.line.now e.before.bytes-in.ensures e.edition-for.ensures
-    (framed_other _ (says_so a.k) false _ (λ l. c.if1.true (l ∙ ap (λ (n : ℕ). chars * n) (sym c.before.type_size.ensures))))
-
-all-hex-requires : tie.Need-all-hex-requires
-all-hex-requires c κs = search rules
-
-returns-2 : tie.Need-returns-2
-returns-2 c =
-    let d = c.before.before in
-    let e = d.before.before in
-    let a = e.before.before.before.args in
-    not-next a.k a.edition a.line.now e.before.bytes-in.ensures e.edition-for.ensures
-    (framed_spoilt _ (says_so a.k) false _ (long d) (said_no _ _ c.before.all-hex.ensures c.if2.true))
-
-says-requires : tie.Need-says-requires
-says-requires c κs = search rules
-
-returns-3 : tie.Need-returns-3
-returns-3 c =
-    let h = c.before in
-    let d = h.before.before in
-    let e = d.before.before in
-    let a = e.before.before.before.args in
     c.says.ensures
-    ∙ by_bytes a.k a.edition a.line.now e.before.bytes-in.ensures e.edition-for.ensures
-    (framed_good _ (says_so a.k) false a.line.now (long d) (said_yes _ _ h.before.all-hex.ensures h.if2.false))
-
-pub is-next-spec : {M : Type 1} → statement M
-is-next-spec =
-    tie.close
-    (tie.spec
-    bytes-in-requires
-    edition-for-requires
-    size-of-requires
-    mul-if1
-    returns
-    all-hex-requires
-    returns-2
-    says-requires
-    returns-3)
+    ∙ by_bytes c.args.k c.args.edition c.args.line.now c.bytes_in-b.ensures c.edition_for-own.ensures
+    (framed_good _ (says_so c.args.k) false c.args.line.now (c.if-line-size_of.false ∙ ap (λ (n : ℕ). chars * n) c.size_of.ensures) (said_yes _ _ c.all_hex.ensures c.if-not-all_hex.false))
