@@ -185,9 +185,9 @@ module _ {z : Opening} where
 
   along : {c : Cluster} → Now z c → InTime c → (es : List Event) → Onward c es → InTime (run_to c es) × NotFallen c (run_to c es)
   along N t [] h = (t, fallen_refl)
-  along N t (e ∷ es) h =
+  along {c = c} N t (e ∷ es) h =
       let x = in_time N t e h.0 in
-      let y = along (next N e h.0).later x.0 es h.1 in
+      let y = along {c = happens c e} (next N e h.0).later x.0 es h.1 in
       (y.0, fallen_trans x.1 y.1)
 
   onward : {c d : Cluster} → Now z c → InTime c → LeadsTo c d → InTime d × NotFallen c d

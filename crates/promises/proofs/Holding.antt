@@ -170,9 +170,9 @@ module _ (c : Cluster) (f : Fits c) (g : Good c) (h : Held) (hl : HoldsLogs c h)
 holds_along : {z : Opening} {c : Cluster} → Now z c → (h : Held) → HoldsLogs c h → (es : List Event) → Onward c es → HoldsLogs (run_to c es) (held_over c h es)
 holds_along N h hl [] o = hl
 holds_along {c = c} N h hl (comes s ∷ es) o =
-    holds_along (next N (comes s) o.0).later (held_after c h s) (stepped c N.fits (good c N.fits N.formed) h hl N s o.0.0 o.0.1) es o.1
+    holds_along {c = happens c (comes s)} (next N (comes s) o.0).later (held_after c h s) (stepped c N.fits (good c N.fits N.formed) h hl N s o.0.0 o.0.1) es o.1
 holds_along {c = c} N h hl (overnight d ∷ es) o =
-    holds_along (next N (overnight d) tt).later h (subst (λ (x : Cluster). HoldsLogs x h) (sym (given_back N d)) hl) es o.1
+    holds_along {c = happens c (overnight d)} (next N (overnight d) tt).later h (subst (λ (x : Cluster). HoldsLogs x h) (sym (given_back N d)) hl) es o.1
 
 -- a fresh server has no entry
 fresh_holds : (b : Opening) → HoldsLogs (fresh_of b) hold_nothing

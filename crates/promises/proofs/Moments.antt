@@ -36,7 +36,7 @@ module _ {z : Opening} where
       go : (y ≡ c) ⊎ Among y [] → InTurn z c y
       go (inl q) = rw q (itself N)
       go (inr k) = absurd (Memᴰ.not-nil k)
-  since {c} N (e ∷ es) h y m = go (Memᴰ.cases_cons m) (λ k. since (next N e h.0).later es h.1 y k)
+  since {c} N (e ∷ es) h y m = go (Memᴰ.cases_cons m) (λ k. since {c = happens c e} (next N e h.0).later es h.1 y k)
     where
       go : (y ≡ c) ⊎ Among y (records_of (happens c e) es) → (Among y (records_of (happens c e) es) → InTurn z (happens c e) y)
           → InTurn z c y
@@ -52,7 +52,7 @@ module _ {z : Opening} where
       go (inl q) = inl (rw q (since N [] h y my))
       go (inr k) = absurd (Memᴰ.not-nil k)
   in_turn {c} N (e ∷ es) h x y mx my =
-      go (Memᴰ.cases_cons mx) (Memᴰ.cases_cons my) (in_turn (next N e h.0).later es h.1 x y)
+      go (Memᴰ.cases_cons mx) (Memᴰ.cases_cons my) (in_turn {c = happens c e} (next N e h.0).later es h.1 x y)
     where
       rest : List Cluster
       rest = records_of (happens c e) es

@@ -77,6 +77,7 @@ came_step c s f m =
 -- a start gives refusal 3 alone
 third : (n f : ℕ) {r : Refusal} → Broken (start_rules n f) r → r ≡ OutOfRange
 third n f (here e) = refl
+third n f (later _ k) = elim k [ ]
 
 before_start : (s : Step) → (step_of zero_cluster s).answer ≢ Refused BelowCommitPoint
 unfolding row_of

@@ -80,9 +80,9 @@ start_is z =
 same_record : {z : Opening} {c : Cluster} → Now z c → (es more : List Event) → Onward c (es ++ more) → record_after c (lines_for es) ≡ run_to c es
 same_record N [] more h = refl
 same_record {c = c} N (comes s ∷ es) more h =
-    ap (λ (o : Outcome). record_after o.cluster (lines_for es)) (line_is c s h.0.0) ∙ same_record (next N (comes s) h.0).later es more h.1
+    ap (λ (o : Outcome). record_after o.cluster (lines_for es)) (line_is c s h.0.0) ∙ same_record {c = happens c (comes s)} (next N (comes s) h.0).later es more h.1
 same_record {c = c} N (overnight d ∷ es) more h =
-    ap (λ (x : Cluster). record_after x (lines_for es)) (sym (given_back N d)) ∙ same_record (next N (overnight d) tt).later es more h.1
+    ap (λ (x : Cluster). record_after x (lines_for es)) (sym (given_back N d)) ∙ same_record {c = happens c (overnight d)} (next N (overnight d) tt).later es more h.1
 
 pub runs_are_texts : RunsAreTexts
 runs_are_texts z run h =

@@ -42,7 +42,7 @@ module _ {z : Opening} where
 
   along : {c : Cluster} → Now z c → (es : List Event) → Onward c es → InTurn z c (run_to c es)
   along N [] h = itself N
-  along N (e ∷ es) h = let t = next N e h.0 in then t (along t.later es h.1)
+  along {c = c} N (e ∷ es) h = let t = next N e h.0 in then t (along {c = happens c e} t.later es h.1)
 
   pub led : {c d : Cluster} → Now z c → LeadsTo c d → InTurn z c d
   led {c} N l = subst (InTurn z c) l.ends (along N l.events l.onward)
