@@ -15,53 +15,53 @@ use std::process::ExitCode;
 
 /// Where the following starts: a module and what it defines.
 const ROOTS: [(&str, &str); 33] = [
-    ("rules.Rules", "stepOf"),
+    ("rules.Rules", "step_of"),
     ("replay.Texts", "answers"),
     ("replay.Texts", "leaves"),
-    ("frames.Steps", "readStep"),
-    ("frames.Steps", "writeStep"),
-    ("answers.Answers", "readAnswer"),
-    ("answers.Answers", "writeAnswer"),
+    ("frames.Steps", "read_step"),
+    ("frames.Steps", "write_step"),
+    ("answers.Answers", "read_answer"),
+    ("answers.Answers", "write_answer"),
     ("answers.Ranges", "FitsTelling"),
     ("cluster.Ranges", "Fits"),
-    ("reads.Lists", "wholeList"),
-    ("reads.Lists", "committedList"),
+    ("reads.Lists", "whole_list"),
+    ("reads.Lists", "committed_list"),
     ("promises.Demand3", "Demand3Promised"),
     ("promises.Newest", "NewestPromised"),
     ("rules.Stamped", "Stamped"),
     ("promises.Clocks", "ClocksPromised"),
-    ("saved.Saved", "saveOf"),
+    ("saved.Saved", "save_of"),
     ("saved.Shape", "shaped"),
     ("promises.Texts", "TextsAreRuns"),
     ("promises.Texts", "RunsAreTexts"),
     ("promises.Written", "Never9Written"),
     ("promises.Written", "RefusedBeforeAStart"),
     ("promises.Written", "CarriedInTexts"),
-    ("histories.Checking", "checkOf"),
+    ("histories.Checking", "check_of"),
     ("promises.Longest", "LongestPromised"),
     ("promises.Honest", "HonestPromised"),
     ("histories.Reasons", "Because"),
     ("promises.Verdicts", "VerdictPromised"),
-    ("orders.Orders", "ordersIn"),
-    ("plans.Making", "plannedOf"),
+    ("orders.Orders", "orders_in"),
+    ("plans.Making", "planned_of"),
     ("recovery.Promise", "RecoveryPromised"),
     ("recovery.Promise", "OnlyNine"),
-    ("trails.Traces", "traceOf"),
-    ("trails.Reading", "answersIn"),
+    ("trails.Traces", "trace_of"),
+    ("trails.Reading", "answers_in"),
 ];
 /// What the claims decide completely by other definitions, so that its own need not be believed: it
 /// is named, and not followed.
-const DECIDED: [(&str, &str); 2] = [("loads.Loads", "loadFor"), ("verdicts.Verdicts", "verdictOn")];
+const DECIDED: [(&str, &str); 2] = [("loads.Loads", "load_for"), ("verdicts.Verdicts", "verdict_on")];
 /// Modules that hold the words of claims and nothing else: all that they define.
 const WORDS: [&str; 3] = ["steps.Reasons", "rules.Statements", "loads.Statements"];
-/// What a type's module is named by, as `log.declared.Entry`, where its definition is its declaration.
+/// What a type's module is named by, as `server_log.declared.Entry`, where its definition is its declaration.
 const DECLARED: &str = ".declared.";
 /// The page of claims.
 const PAGE: &str = "crates/claims/proofs/Claims.antt";
 /// How many lines they may be.
 const MOST: usize = 1660;
 
-/// A definition by its module, as `log.Entries`, and its name.
+/// A definition by its module, as `server_log.Entries`, and its name.
 type Place = (String, String);
 
 /// What a file of `specs` imports under which name, and the lines of each of its definitions.
@@ -103,24 +103,40 @@ fn pins(places: &BTreeSet<Place>, page: &str) -> BTreeSet<String> {
     }
     let statements = statements(page);
     let words: BTreeSet<&str> = statements.split(is_between).collect();
-    for import in page.lines().filter_map(|line| line.strip_prefix("use Rattle·")) {
-        let is_named = match import.split_once(" as ") {
-            Some((_, name)) => words.iter().any(|word| word.starts_with(&format!("{name}."))),
-            None => {
-                let (_, names) = import.split_once(".{").unwrap_or_default();
-                names.trim_end_matches('}').split(", ").any(|name| words.contains(name))
-            }
-        };
+    let heads: BTreeSet<&str> = words.iter().map(|word| head(word)).collect();
+    let ours = |import: &&str| Path::new("crates").join(head(import)).is_dir();
+    let imports = page.lines().filter_map(|line| line.strip_prefix("use Rattle."));
+    for import in imports.filter(ours) {
         let module = import.split(" as ").next().unwrap_or_default();
         let module = module.split(".{").next().unwrap_or_default();
+        let path = format!("crates/{}.antt", module.replace('.', "/"));
+        let is_named = match import.split_once(" as ") {
+            // Its name may be a value's too, with a projection.
+            Some((_, name)) => {
+                let text = fs::read_to_string(&path).unwrap_or_default();
+                let below = words.iter().filter_map(|word| word.strip_prefix(&format!("{name}.")));
+                let mut parts = below.map(head);
+                parts.any(|part| text.lines().any(|line| states(line, part)))
+            }
+            None => {
+                let (_, names) = import.split_once(".{").unwrap_or_default();
+                names.trim_end_matches('}').split(", ").any(|name| heads.contains(name))
+            }
+        };
         let file = module.rsplit('.').next().unwrap_or_default();
         let is_contract = file == "Reads" || file.starts_with(|c: char| c.is_lowercase());
         let is_source = module.contains(DECLARED) || is_contract;
         if is_named && !is_source {
-            files.insert(format!("crates/{}.antt", module.replace('.', "/")));
+            files.insert(path);
         }
     }
     files
+}
+
+/// Whether a line of a module begins what is named so there.
+fn states(line: &str, name: &str) -> bool {
+    let heads = ["pub", "abbrev", "unfoldable", "record", "data"];
+    line.split_whitespace().find(|word| !heads.contains(word)) == Some(name)
 }
 
 /// The page's statements: each claim from its name to where its proof begins.
@@ -208,12 +224,12 @@ fn module(text: &str) -> Module {
     module
 }
 
-/// `Rattle·log.specs.Entries.{a, b as c}`; what comes from elsewhere is not the project's.
+/// `Rattle.server_log.specs.Entries.{a, b as c}`; what comes from elsewhere is not the project's.
 fn take_import(imports: &mut HashMap<String, Place>, import: &str) {
-    let Some(rest) = import.strip_prefix("Rattle·") else { return };
+    let Some(rest) = import.strip_prefix("Rattle.") else { return };
     let Some((room, rest)) = rest.split_once(".specs.") else { return };
     let Some((file, names)) = rest.split_once(".{") else { return };
-    let module = format!("{}.{file}", room.trim_end_matches("·specs"));
+    let module = format!("{room}.{file}");
     for name in names.trim_end_matches('}').split(", ") {
         let (theirs, ours) = name.split_once(" as ").unwrap_or((name, name));
         imports.insert(ours.to_string(), (module.clone(), theirs.to_string()));
@@ -254,9 +270,14 @@ fn is_between(character: char) -> bool {
     character.is_whitespace() || "(){};,".contains(character)
 }
 
-/// The definition that a word in a module stands for, if it is one.
+/// What a projection is of, as `s` in `s.log`; a word without one is itself.
+fn head(word: &str) -> &str {
+    word.split('.').next().unwrap_or_default()
+}
+
+/// The definition that a word in a module stands for, or what is projected there, if it is one.
 fn resolved(modules: &BTreeMap<String, Module>, here: &str, word: &str) -> Option<Place> {
-    let module = &modules[here];
+    let (module, word) = (&modules[here], head(word));
     if module.definitions.contains_key(word) {
         return Some((here.to_string(), word.to_string()));
     }

@@ -1,6 +1,6 @@
 //! What each public function of `crates/*/src` promises. Each has an `ensures`, no `requires`, and a
 //! law in its crate's `proofs/Results.antt` that its contract allows one result: the law has the
-//! function's name, with hyphens, and speaks of the reading of that contract. Its row in
+//! function's name and `_lem`, and speaks of the reading of that contract. Its row in
 //! `docs/PROMISES.md` names the definitions that its `ensures` is made of, and no others. Fails on
 //! each that lacks one of these and isn't among that paper's exceptions, and on an exception that
 //! nothing needs. With `--table` it writes every public function's signature and contract instead,
@@ -91,21 +91,21 @@ fn laws_alone(text: &str) -> String {
     laws
 }
 
-/// A law's name for a function's path, and the line that brings the reading of its contract.
+/// A function's name by its path, and the line that brings the reading of its contract. Its law has that name and `_lem`.
 fn law_of(path: &str) -> (String, String) {
     let (room, below) = path.split_once("::").unwrap_or(("", path));
-    let name = below.rsplit("::").next().unwrap_or(below).replace('_', "-");
-    let module = format!("Rattle·{room}·proofs.proofs.{}.Reads", below.replace("::", "."));
-    let import = format!("use {module} as {name}-reads");
+    let name = below.rsplit("::").next().unwrap_or(below).to_string();
+    let module = format!("Rattle.{room}.proofs.{}.Reads", below.replace("::", "."));
+    let import = format!("use {module} as {name}_reads");
     (name, import)
 }
 
 fn has_law(results: &str, path: &str, form: &str) -> bool {
     let (name, import) = law_of(path);
     let mut laws = results.split("\npub ");
-    let law = laws.find(|law| law.starts_with(&format!("{name} : "))).unwrap_or_default();
-    let statement = law.split(&format!("\n{name} ")).next().unwrap_or_default();
-    let speaks = statement.contains(&format!("{form}{name}-reads.Learnt "));
+    let law = laws.find(|law| law.starts_with(&format!("{name}_lem : "))).unwrap_or_default();
+    let statement = law.split(&format!("\n{name}_lem ")).next().unwrap_or_default();
+    let speaks = statement.contains(&format!("{form}{name}_reads.Learnt "));
     speaks && results.lines().any(|line| line == import)
 }
 
@@ -114,18 +114,18 @@ fn has_law(results: &str, path: &str, form: &str) -> bool {
 fn has_walked_law(results: &str, path: &str) -> bool {
     let (room, below) = path.split_once("::").unwrap_or(("", path));
     let (name, _) = law_of(path);
-    let import = format!("use Rattle·{room}·proofs.proofs.{} as the-{name}", below.replace("::", "."));
+    let import = format!("use Rattle.{room}.specs.contracts.{} as the_{name}", below.replace("::", "."));
     let law = |start: &str| {
         let law = results.split("pub ").find(|law| law.starts_with(start)).unwrap_or_default();
         law.split("\n\n").next().unwrap_or_default()
     };
-    let says = law(&format!("{name}-says : "));
+    let says = law(&format!("{name}_says_lem : "));
     let facts = says.lines().find_map(|line| line.trim_start().strip_prefix("≡ ")).unwrap_or_default();
     let of_fact = |part: &str| part.split([' ', ')']).next().unwrap_or_default().to_string();
     let allowed: Vec<String> = facts.split("fact 𝓤 (").skip(1).map(of_fact).collect();
-    let decides = law(&format!("{name} : ")).replace('\n', " ") + " ";
+    let decides = law(&format!("{name}_lem : ")).replace('\n', " ") + " ";
     results.lines().any(|line| line == import)
-        && says.contains(&format!("the-{name}.clauses "))
+        && says.contains(&format!("the_{name}.clauses "))
         && !allowed.is_empty()
         && allowed.iter().all(|fact| fact.starts_with("Allowed") && decides.contains(&format!("OneResult {fact} ")))
 }
@@ -134,7 +134,7 @@ fn law_wanted(room: &str, path: &str, form: &str) -> String {
     let (name, import) = law_of(path);
     format!(
         "has no law about its contract; state one in crates/{room}/proofs/Results.antt as \
-         `pub {name} : .. → {form}{name}-reads.Learnt ..)`, with `{import}`"
+         `pub {name}_lem : .. → {form}{name}_reads.Learnt ..)`, with `{import}`"
     )
 }
 

@@ -2,6 +2,7 @@
 
 use crate::publics::Public;
 use std::collections::BTreeSet;
+use std::path::Path;
 
 /// A line for each function's signature, one for each of its clauses, and one for the homes of the
 /// names in them.
@@ -14,7 +15,7 @@ pub fn table(publics: &[Public]) -> String {
             table += &format!("    {clause}\n");
         }
         let homes = names_in(public).into_iter().map(|name| {
-            let home = public.names[name].replace('·', ".");
+            let home = &public.names[name];
             format!("{name} of {home}")
         });
         let homes: Vec<String> = homes.collect();
@@ -25,18 +26,20 @@ pub fn table(publics: &[Public]) -> String {
     table
 }
 
-/// The names that a function's clauses use of those that its file brings in.
+/// The names that a function's clauses use of those that its file brings in: a word, or what is
+/// projected in one, as `s` in `s.log`. An operator is used where what stands about its places does.
 fn names_in(public: &Public) -> BTreeSet<&str> {
     let clauses = public.requires.iter().chain(&public.ensures);
-    let words: BTreeSet<&str> =
-        clauses.flat_map(|c| c.split([' ', '(', ')', '{', '}', '⌜', '⌝'])).collect();
-    let used = |name: &str| words.contains(name.trim_matches('_'));
+    let words = clauses.flat_map(|c| c.split([' ', '(', ')', '{', '}', ';', ',']));
+    let words: BTreeSet<&str> = words.filter_map(|word| word.split('.').next()).collect();
+    let used = |name: &str| name.split('◌').filter(|part| !part.is_empty()).all(|part| words.contains(part));
     public.names.keys().map(String::as_str).filter(|name| used(name)).collect()
 }
 
 /// Those of them that a room of ours defines.
 fn definitions_in(public: &Public) -> BTreeSet<&str> {
-    let ours = |name: &&str| public.names[*name].starts_with("Rattle·");
+    let room = |name: &str| public.names[name].split('.').nth(1).unwrap_or_default();
+    let ours = |name: &&str| Path::new("crates").join(room(name)).is_dir();
     names_in(public).into_iter().filter(ours).collect()
 }
 

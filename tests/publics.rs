@@ -55,7 +55,8 @@ pub fn functions(crates: &Path) -> io::Result<Vec<Public>> {
 fn brought_in(text: &str) -> BTreeMap<String, String> {
     let mut names = BTreeMap::new();
     for part in text.split("ghost use ").skip(1) {
-        let (module, rest) = part.split_once(".{").unwrap_or_default();
+        let import = part.split(';').next().unwrap_or_default();
+        let (module, rest) = import.split_once(".{").unwrap_or_default();
         let (listed, _) = rest.split_once('}').unwrap_or_default();
         for name in listed.split(',').map(str::trim).filter(|name| !name.is_empty()) {
             names.insert(name.to_string(), module.trim().to_string());

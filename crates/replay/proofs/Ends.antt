@@ -13,7 +13,7 @@ use Rattle.replay.specs.Texts.{answer_to, line_of}
 use Rattle.lines.specs.Texts.{placed}
 use Rattle.lines.specs.Readers.{is_empty, line_held}
 use Rattle.lines.specs.Folds.{at_end}
-use Rattle.replay.specs.Pieces.{answer_line, begun, ending, ended, finish_of, finish_out}
+use Rattle.replay.specs.Pieces.{answer_line, begun, ending, finish_of, finish_out}
 
 -- the result and the buffer, together
 abbrev Ends : Session → Finished → List ℕ → List ℕ → Type 0

@@ -7,5 +7,4 @@ pub mod Ahead
 pub mod Planned
 pub mod Ends
 pub mod Refused
-pub mod Lent
 pub mod Results

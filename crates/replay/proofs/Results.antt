@@ -8,7 +8,7 @@ use types.Logic.{Logic}
 use contract.Monad.{Fun, fact}
 use mathlib.Core.Path.{◌≡◌, refl}
 use contract.Lifetimes.{Lfts}
-use denote.Ref.{Bor}
+use denote.Ref.{Bor, MutBor}
 use mathlib.Core.Bool.{Bool}
 use mathlib.Core.List.{List}
 use Prim.Native.Nat.{ℕ}
@@ -43,17 +43,17 @@ step_held_lem r = one_result (read_step (line_held r))
 pub plan_for_lem : (size : ℕ) (formed : Bool) (read : ReadStep) → OneResult (λ x. plan_for_reads.Learnt tt (size, (formed, (read, tt))) x (size, (formed, (read, tt))))
 plan_for_lem size formed read = one_result (plan_of size formed read)
 
-pub pour_lem : (κs : Lfts 2) (s : Session) (text out : Bor (List ℕ)) → OneOutcome (λ x o. pour_reads.Learnt κs (s, (text, (out, tt))) x (s, (text, (o, tt))))
+pub pour_lem : (κs : Lfts 2) (s : Session) (text : Bor (List ℕ)) (out : MutBor (List ℕ)) → OneOutcome (λ x o. pour_reads.Learnt κs (s, (text, (out, tt))) x (s, (text, (o, tt))))
 pour_lem κs s text out = one_outcome (fed_of s text.now (length out.now)) (fed_out s text.now out.now)
 
 pub respond_to_lem : (c : Cluster) (read : ReadStep) → OneResult (λ x. respond_to_reads.Learnt tt (c, (read, tt)) x (c, (read, tt)))
 respond_to_lem c read = one_result (respond c read)
 
-pub close_lem : (κs : Lfts 1) (s : Session) (out : Bor (List ℕ)) → OneOutcome (λ x o. close_reads.Learnt κs (s, (out, tt)) x (s, (o, tt)))
+pub close_lem : (κs : Lfts 1) (s : Session) (out : MutBor (List ℕ)) → OneOutcome (λ x o. close_reads.Learnt κs (s, (out, tt)) x (s, (o, tt)))
 close_lem κs s out = one_outcome (finish_of s (length out.now)) (finish_out s out.now)
 
 -- where the reader is lent, the contract says of the result, of the reader at the end and of the buffer what is allowed, and of each that is one
-module _ (c : Cluster) (r : Bor Reader) (out : Bor (List ℕ)) where
+module _ (c : Cluster) (r : MutBor Reader) (out : MutBor (List ℕ)) where
   abbrev was_lem : Session
   was_lem = record { cluster = c; reader = r.now }
 
@@ -67,7 +67,7 @@ module _ (c : Cluster) (r : Bor Reader) (out : Bor (List ℕ)) where
     abbrev pub AllowedOut_lem : List ℕ → Type 0
     AllowedOut_lem o = o ≡ fed_out was_lem text.now out.now
 
-    pub feed_says_lem : {M : Type 1} {𝓤 : Ura M} (𝓛 : Logic 𝓤) (at_mem : Memory → SProp 𝓤) (run : Routine → Fun 𝓤) (κs : Lfts 3) (f : Fed) (q : Bor Reader) (o : Bor (List ℕ))
+    pub feed_says_lem : {M : Type 1} {𝓤 : Ura M} (𝓛 : Logic 𝓤) (at_mem : Memory → SProp 𝓤) (run : Routine → Fun 𝓤) (κs : Lfts 3) (f : Fed) (q : MutBor Reader) (o : MutBor (List ℕ))
         → (the_feed.clauses 𝓛 at_mem run κs (c, (r, (text, (out, tt))))).ensures tt f (c, (q, (text, (o, tt))))
         ≡ sep 𝓤 (fact 𝓤 (AllowedFed_lem f)) (sep 𝓤 (fact 𝓤 (AllowedReader_lem q.now)) (fact 𝓤 (AllowedOut_lem o.now)))
     feed_says_lem 𝓛 at_mem run κs f q o = refl
@@ -84,7 +84,7 @@ module _ (c : Cluster) (r : Bor Reader) (out : Bor (List ℕ)) where
   abbrev pub AllowedEndOut_lem : List ℕ → Type 0
   AllowedEndOut_lem o = o ≡ finish_out was_lem out.now
 
-  pub finish_says_lem : {M : Type 1} {𝓤 : Ura M} (𝓛 : Logic 𝓤) (at_mem : Memory → SProp 𝓤) (run : Routine → Fun 𝓤) (κs : Lfts 2) (f : Finished) (q : Bor Reader) (o : Bor (List ℕ))
+  pub finish_says_lem : {M : Type 1} {𝓤 : Ura M} (𝓛 : Logic 𝓤) (at_mem : Memory → SProp 𝓤) (run : Routine → Fun 𝓤) (κs : Lfts 2) (f : Finished) (q : MutBor Reader) (o : MutBor (List ℕ))
       → (the_finish.clauses 𝓛 at_mem run κs (c, (r, (out, tt)))).ensures tt f (c, (q, (o, tt)))
       ≡ sep 𝓤 (fact 𝓤 (AllowedEnd_lem f)) (sep 𝓤 (fact 𝓤 (AllowedEndReader_lem q.now)) (fact 𝓤 (AllowedEndOut_lem o.now)))
   finish_says_lem 𝓛 at_mem run κs f q o = refl

@@ -12,8 +12,8 @@ use Rattle.rules.proofs.untouched.Reads as untouched_reads
 use Rattle.rules.proofs.one.Reads as one_reads
 use Rattle.rules.proofs.deliver.Reads as deliver_reads
 use Rattle.rules.proofs.put_back.Reads as put_back_reads
-use Rattle.rules.proofs.single.Reads as single_Reads
-use Rattle.rules.proofs.pair.Reads as Pair_reads
+use Rattle.rules.proofs.single.Reads as single_reads
+use Rattle.rules.proofs.pair.Reads as pair_reads
 use Rattle.rules.proofs.core.Reads as core_reads
 use Rattle.rules.proofs.is_start.Reads as is_start_reads
 use Rattle.rules.proofs.step.Reads as step_reads
@@ -30,10 +30,10 @@ deliver_lem c sends = one_result (delivered c sends)
 pub put_back_lem : (c : Cluster) (a : ℕ) (o : Stepped) → OneResult (λ x. put_back_reads.Learnt tt (c, (a, (o, tt))) x (c, (a, (o, tt))))
 put_back_lem c a o = one_result (put_back c a o)
 
-pub single_lem : (c : Cluster) (a : ℕ) (kind : Step) → OneResult (λ x. single_Reads.Learnt tt (c, (a, (kind, tt))) x (c, (a, (kind, tt))))
+pub single_lem : (c : Cluster) (a : ℕ) (kind : Step) → OneResult (λ x. single_reads.Learnt tt (c, (a, (kind, tt))) x (c, (a, (kind, tt))))
 single_lem c a kind = one_result (single_of c a kind)
 
-pub pair_lem : (c : Cluster) (a b : ℕ) (kind : Step) → OneResult (λ x. Pair_reads.Learnt tt (c, (a, (b, (kind, tt)))) x (c, (a, (b, (kind, tt)))))
+pub pair_lem : (c : Cluster) (a b : ℕ) (kind : Step) → OneResult (λ x. pair_reads.Learnt tt (c, (a, (b, (kind, tt)))) x (c, (a, (b, (kind, tt)))))
 pair_lem c a b kind = one_result (pair_of c a b kind)
 
 pub core_lem : (c : Cluster) (kind : Step) → OneResult (λ x. core_reads.Learnt tt (c, (kind, tt)) x (c, (kind, tt)))
