@@ -1,15 +1,14 @@
 -- The lines as the code has them, who leads, who has the greatest term, and what has to hold before a plan is made. Assumes nothing.
-use mathlib.Core.Path.{◌≡◌, refl, ap, sym, ◌∙◌}
+use mathlib.Core.Path.{◌≡◌, ap, sym, ◌∙◌}
 use mathlib.Core.Bool.{true, false}
-use mathlib.Core.List.{[], ◌∷◌}
+use mathlib.Core.List.{[]}
 use Prim.Native.Nat.{ℕ, ◌≤◌, ◌<◌}
 use native.Mathlib.Omega.{arith}
-use lib.Dec.{leb, ltb}
+use lib.Dec.{ltb}
 use borrow.Author.Tests.{le-leb, lt-leb, lt-ltb, le-ltb, leb-true, leb-false}
 use Rattle.clock.specs.Times.{limit, zero_time}
 use Rattle.server_log.specs.Order.{highest_key}
 use Rattle.cluster.specs.declared.Head.{Head}
-use Rattle.cluster.specs.declared.Server.{Server}
 use Rattle.cluster.specs.declared.Cluster.{Cluster}
 use Rattle.cluster.specs.Servers.{most_servers, server_at}
 use Rattle.cluster.specs.Sets.{votes}

@@ -21,7 +21,7 @@ use Rattle.rules.specs.Rules.{step_of}
 use Rattle.plans.specs.declared.Work.{Work}
 use Rattle.plans.specs.Moves.{Move, steps_by, turns, once, one_by_one, first_refused, other}
 use Rattle.plans.specs.Plan.{others, chosen, newest_server, all_voters, hearing, copies, plan_lines, plan_for}
-use Rattle.plans.specs.Making.{most_frames, no_frames, with_step, with_steps, frames_by}
+use Rattle.plans.specs.Making.{most_frames, no_frames, with_step, frames_by}
 use Rattle.plans.specs.Working.{tried_of, work_of, begun_of}
 use Rattle.plans.proofs.Trying.{tried_over, tried_refused, tried_done}
 
