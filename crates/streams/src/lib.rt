@@ -103,6 +103,13 @@ impl Streams {
         }
     }
 
+    // Standard input, for what reads any source.
+    pub fn input(&self) -> Source<Stdin> {
+        Source {
+            file: Some(self.input),
+        }
+    }
+
     // What a read of standard input answered.
     pub fn read(&self, buffer: &mut [u8]) -> isize {
         let mut from = self.input;
