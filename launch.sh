@@ -14,9 +14,10 @@ folder_of() {
     esac
 }
 
-# Becomes find, which prints what of crates.txt and the files of crates/ is newer than the program; an argument is one more word to it.
+# Becomes find, which prints what of crates.txt and the files of crates/ is newer than the program, but for what was made of them in a folder
+# out; an argument is one more word to it.
 newer() {
-    exec find "$here/crates.txt" "$here/crates" -type f -newer "$program" -print "$@"
+    exec find "$here/crates.txt" "$here/crates" -type d -name out -prune -o -type f -newer "$program" -print "$@"
 }
 
 # Whether the program is missing or older than one of those. The first is enough, but -quit is in no standard, so where find fails with it
@@ -27,12 +28,12 @@ stale() {
     [ -n "$found" ]
 }
 
-# Builds the program, unless another launcher has done so meanwhile.
+# Builds the program, unless another launcher has done so meanwhile. rt runs what it has built: here on nothing, and what that answers goes nowhere.
 rebuild() {
     ! command -v flock >/dev/null 2>&1 || flock 6
     stale || return 0
     echo "${0##*/}: the program is missing or older than its sources, so it is proved and built first: that can take some minutes" >&2
-    CDPATH='' cd "$here/" && rt check "${program##*/}" >&2 6>&- && touch "$program"
+    CDPATH='' cd "$here/crates/${program##*/}" && rt run </dev/null >/dev/null 5<&- 6>&- 7<&- && touch "out/${program##*/}"
 }
 
 # The same, one launcher at a time.
@@ -42,37 +43,15 @@ build() {
     beside rebuild 6>"$here/target/building" || die "the program could not be built: the lines above say why"
 }
 
-# Sets home to the kit's folder: the one that is told, or the one that the command rt stands in, wherever its links lead; where there is no
-# such command, the one that was found last. Until the kit moves, a program that is built needs no rt on the PATH.
-kit() {
-    home=${RATTLE_HOME-}
-    [ -z "$home" ] || return 0
-    last=
-    [ ! -r "$here/target/kit" ] || IFS= read -r last <"$here/target/kit"
-    if home=$(command -v rt) && home=$(readlink -f -- "$home"); then
-        home=${home%/*}/..
-        [ "$home" = "$last" ] || { printf '%s\n' "$home" >"$here/target/kit"; } 2>/dev/null
-    else
-        home=$last
-        [ -n "$home" ] || die "the Rattle toolchain's command 'rt' is not on the PATH"
-    fi
-}
-
-# Finds what it takes to start the program of that name, and builds it where that has to be.
+# Finds the program of that name, and builds it where that has to be. One that is built needs no rt on the PATH.
 ready() {
-    program=$here/target/bin/$1
+    program=$here/crates/$1/out/$1
     if stale; then build; fi
-    kit
-    machine=$(uname -m)
-    tools=$home/on/$machine/toolchain
-    [ -d "$tools" ] || die "the toolchain at $home has nothing for this machine, $machine"
-    emulator=$tools/bin/qemu-x86_64
-    [ -x "$emulator" ] || emulator=
 }
 
-# Becomes the program, started as rt starts one: under the kit's emulator where there is one, its loader and its libraries.
+# Becomes the program.
 run() {
-    exec ${emulator:+"$emulator"} "$tools/lib/ld-linux-x86-64.so.2" --library-path "$tools/lib" "$program"
+    exec "$program"
 }
 
 # Refuses a file that can't be read.

@@ -1,6 +1,11 @@
 // Step lines from standard input and the phones' records from descriptor 5 to one sentence on standard output.
 #![tactic(auto)]
 
-fn main() {
-    checks::run();
+use std::process::ExitCode;
+use streams::Streams;
+
+fn main(rt: HostRuntime) -> ExitCode {
+    let streams = Streams::new(rt.stdin(), rt.stdout(), rt.stderr());
+    checks::run(&rt, &streams);
+    streams.status()
 }

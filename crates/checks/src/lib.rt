@@ -8,20 +8,23 @@ mod say;
 mod sentence;
 mod texts;
 
+use std::rt::Files;
+use streams::Streams;
+
 // The program. What it reads and writes no contract can say.
-pub fn run() {
-    let b = texts::read();
+pub fn run<R: Files>(files: &R, streams: &Streams) {
+    let b = texts::read(files, streams);
     if !b.steps {
-        say::cannot_read_steps();
+        say::cannot_read_steps(streams);
         return;
     }
     if !b.phones {
-        say::cannot_read_phones();
+        say::cannot_read_phones(streams);
         return;
     }
     let run = b.run;
     let list = b.list;
     let passed = b.passed;
     let ends = b.ends;
-    sentence::tell(run, list, passed, ends);
+    sentence::tell(streams, run, list, passed, ends);
 }

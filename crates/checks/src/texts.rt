@@ -1,4 +1,4 @@
-// Both texts, each from its descriptor to its end: the step lines from standard input, and then the phones' records from the one that the
+// Both texts, each from its source to its end: the step lines from standard input, and then the phones' records from the descriptor that the
 // launcher opens. One loop does for both.
 ghost use Rattle.std.specs.Prelude.{◌≡◌};
 ghost use Rattle.checks.specs.Reading.{new_texts, taken_by, Turned, ReadOn, ReadsBoth};
@@ -6,11 +6,14 @@ ghost use Rattle.checks.specs.Reading.{new_texts, taken_by, Turned, ReadOn, Read
 use crate::passed;
 use crate::passed::{Passed, Passing};
 use followed::{Following, Run};
-use libc::STDIN_FILENO;
 use lines::{End, PIECE};
 use phones::{Listed, Listing};
+use std::io::Read;
+use std::rt::Files;
+use streams::{Source, Streams};
 
-const PHONES_FILENO: i32 = 5;
+// Where the phones' records are read: what is open at descriptor 5.
+const PHONES: &str = "/dev/fd/5";
 
 // Both texts as far as they were read, and what is passed over of the step lines, and of the phones'.
 #[derive(Clone, Copy)]
@@ -48,13 +51,6 @@ fn begin() -> Texts
         passing: passed::begin(),
         ending: passed::begin(),
     }
-}
-
-fn descriptor(steps: bool) -> i32 {
-    if steps {
-        return STDIN_FILENO;
-    }
-    PHONES_FILENO
 }
 
 // One piece more, of the step lines or of the phones' records.
@@ -104,15 +100,15 @@ fn turn(t: Texts, steps: bool, buffer: &[u8], got: isize) -> Taken
     }
 }
 
-// A descriptor to its end. The count of turns only makes the loop end: nobody lives to see it run out.
-fn read_on(t: Texts, steps: bool) -> Taken
+// A source to its end. The count of turns only makes the loop end: nobody lives to see it run out.
+fn read_on<F: Read>(source: &mut Source<F>, t: Texts, steps: bool) -> Taken
     ensures { ReadOn steps t result.texts result.end }
 {
     let mut d = t;
     let mut turns = u64::MAX;
     while turns > 0 {
         let mut buffer = [0; PIECE];
-        let got = libc::read(descriptor(steps), &mut buffer);
+        let got = source.read(&mut buffer);
         let u = turn(d, steps, &buffer, got);
         let e = u.texts;
         d = e;
@@ -128,12 +124,14 @@ fn read_on(t: Texts, steps: bool) -> Taken
     }
 }
 
-pub(crate) fn read() -> Both
+pub(crate) fn read<R: Files>(files: &R, streams: &Streams) -> Both
     ensures { ReadsBoth result }
 {
-    let first = read_on(begin(), true);
+    let mut steps = streams.input();
+    let first = read_on(&mut steps, begin(), true);
     let t = first.texts;
-    let second = read_on(t, false);
+    let mut phones = streams::open(files, PHONES);
+    let second = read_on(&mut phones, t, false);
     let u = second.texts;
     let f = u.following;
     let l = u.listing;

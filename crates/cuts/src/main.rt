@@ -6,11 +6,12 @@
 ghost use Rattle.std.specs.Prelude.{◌≤◌, length};
 
 use cluster::Cluster;
-use libc::{STDIN_FILENO, STDOUT_FILENO};
 use lines::Reader;
 use replay::Session;
 use saved::Saved;
+use std::process::ExitCode;
 use steps::Step;
+use streams::Streams;
 
 // A reader's line: =, its characters, a blank, three digits, a blank, a digit.
 const READER_LINE: usize = 1 + lines::WIDTH + 1 + 3 + 1 + 1;
@@ -26,21 +27,21 @@ struct Told {
     alike: bool,
 }
 
-fn say(words: &[u8]) {
-    io::write_all(STDOUT_FILENO, words);
+fn say(streams: &Streams, words: &[u8]) {
+    streams.write(words);
 }
 
 // The first n bytes, where there are as many.
-fn say_first(words: &[u8], n: usize) {
+fn say_first(streams: &Streams, words: &[u8], n: usize) {
     if words.len() < n {
         return;
     }
-    say(&words[0..n]);
+    say(streams, &words[0..n]);
 }
 
-fn number(words: &[u8], n: usize) {
-    say(words);
-    io::print_decimal(STDOUT_FILENO, n as u64);
+fn number(streams: &Streams, words: &[u8], n: usize) {
+    say(streams, words);
+    streams.write_decimal(n as u64);
 }
 
 // Each reader is given to this record: two servers after a start.
@@ -110,56 +111,56 @@ fn shown_all(held: [u8; lines::WIDTH]) -> [u8; lines::WIDTH] {
     all
 }
 
-fn say_reader(r: Reader) {
+fn say_reader(streams: &Streams, r: Reader) {
     let held = r.held;
     let all = shown_all(held);
-    say(b" ");
-    say(&all);
-    number(b" ", r.fill);
+    say(streams, b" ");
+    say(streams, &all);
+    number(streams, b" ", r.fill);
     if r.over {
-        say(b" too long");
+        say(streams, b" too long");
     }
-    say(b"\n");
+    say(streams, b"\n");
 }
 
 // One piece for the reader: what is answered, and the reader then.
-fn fed(r: Reader, piece: &[u8]) {
+fn fed(streams: &Streams, r: Reader, piece: &[u8]) {
     let mut out = [0u8; ROOM];
     let s = Session {
         cluster: given(),
         reader: r,
     };
     let f = replay::pour(s, piece, &mut out);
-    say_first(&out, f.wrote);
+    say_first(streams, &out, f.wrote);
     let d = f.session;
     let q = d.reader;
-    say_reader(q);
+    say_reader(streams, q);
 }
 
 // The end for the reader, in a buffer of the caller's.
-fn ended(r: Reader, out: &mut [u8]) {
+fn ended(streams: &Streams, r: Reader, out: &mut [u8]) {
     let s = Session {
         cluster: given(),
         reader: r,
     };
     let f = replay::close(s, out);
-    say_first(out, f.wrote);
+    say_first(streams, out, f.wrote);
     if !f.ended {
-        say(b"not ended\n");
+        say(streams, b"not ended\n");
     }
     let d = f.session;
     let q = d.reader;
-    say_reader(q);
+    say_reader(streams, q);
 }
 
-fn tried(r: Reader) {
+fn tried(streams: &Streams, r: Reader) {
     let mut out = [0u8; ROOM];
     let mut tight = [0u8; replay::ANSWER_LINE - 1];
-    fed(r, b"");
-    fed(r, b"1");
-    fed(r, b"\n");
-    ended(r, &mut out);
-    ended(r, &mut tight);
+    fed(streams, r, b"");
+    fed(streams, r, b"1");
+    fed(streams, r, b"\n");
+    ended(streams, r, &mut out);
+    ended(streams, r, &mut tight);
 }
 
 // Whether the first n bytes that were written stand among the answers from a place on.
@@ -290,19 +291,19 @@ fn count_cuts(text: &[u8], answers: &[u8], last: &[u8], c: Cluster) -> usize {
     alike
 }
 
-fn compared(text: &[u8], answers: &[u8], last: &[u8], c: Cluster) {
-    number(b"cut in two: ", count_cuts(text, answers, last, c));
-    number(b" of ", text.len());
-    say(b" alike\ncut at every byte: ");
+fn compared(streams: &Streams, text: &[u8], answers: &[u8], last: &[u8], c: Cluster) {
+    number(streams, b"cut in two: ", count_cuts(text, answers, last, c));
+    number(streams, b" of ", text.len());
+    say(streams, b" alike\ncut at every byte: ");
     if ends_alike(in_bytes(text, answers), answers, last, c) {
-        say(b"alike\n");
+        say(streams, b"alike\n");
     } else {
-        say(b"not alike\n");
+        say(streams, b"not alike\n");
     }
 }
 
 // The session at once, and then cut.
-fn session(text: &[u8]) {
+fn session(streams: &Streams, text: &[u8]) {
     let mut answers = [0u8; ROOM];
     let mut last = [0u8; ROOM];
     let f = replay::pour(replay::begin(given()), text, &mut answers);
@@ -317,9 +318,9 @@ fn session(text: &[u8]) {
     if ROOM < m {
         return;
     }
-    say(&answers[0..n]);
-    say(&last[0..m]);
-    compared(text, &answers[0..n], &last[0..m], e.cluster);
+    say(streams, &answers[0..n]);
+    say(streams, &last[0..m]);
+    compared(streams, text, &answers[0..n], &last[0..m], e.cluster);
 }
 
 // Where the line that begins at a place ends.
@@ -338,28 +339,28 @@ fn line_end(text: &[u8], from: usize) -> usize
 }
 
 // A line that is written, and tried where it is a reader.
-fn taken(line: &[u8]) {
-    say(line);
-    say(b"\n");
+fn taken(streams: &Streams, line: &[u8]) {
+    say(streams, line);
+    say(streams, b"\n");
     if line.len() == 0 {
         return;
     }
     if line[0] == b'=' {
-        tried(reader_in(line));
+        tried(streams, reader_in(line));
     }
 }
 
 // The lines one after another, up to the session.
-fn take_lines(text: &[u8]) {
+fn take_lines(streams: &Streams, text: &[u8]) {
     let mut at: usize = 0;
     while at < text.len() {
         let end = line_end(text, at);
-        taken(&text[at..end]);
+        taken(streams, &text[at..end]);
         if end == text.len() {
             return;
         }
         if text[at] == b'+' {
-            session(&text[end + 1..]);
+            session(streams, &text[end + 1..]);
             return;
         }
         at = end + 1;
@@ -367,12 +368,19 @@ fn take_lines(text: &[u8]) {
 }
 
 // A text that fills the buffer may have been cut, and is refused.
-fn main() {
+fn run(streams: &Streams) {
     let mut text = io::large_buffer();
-    let n = io::read_full(STDIN_FILENO, &mut text);
+    let mut input = streams.input();
+    let n = input.read_full(&mut text);
     if text.len() <= n {
-        say(b"? too long");
+        say(streams, b"? too long");
         return;
     }
-    take_lines(&text[0..n]);
+    take_lines(streams, &text[0..n]);
+}
+
+fn main(rt: HostRuntime) -> ExitCode {
+    let streams = Streams::new(rt.stdin(), rt.stdout(), rt.stderr());
+    run(&streams);
+    streams.status()
 }

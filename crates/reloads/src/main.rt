@@ -5,14 +5,15 @@
 #![tactic(auto)]
 
 use cluster::Cluster;
-use libc::{STDIN_FILENO, STDOUT_FILENO};
 use saved::Saved;
+use std::process::ExitCode;
 use steps::{Answer, Step};
+use streams::Streams;
 
 // A line, so that each answer stands by itself.
-fn say(words: &[u8]) {
-    io::write_all(STDOUT_FILENO, words);
-    io::write_all(STDOUT_FILENO, b"\n");
+fn say(streams: &Streams, words: &[u8]) {
+    streams.write(words);
+    streams.write(b"\n");
 }
 
 // Whether the first n bytes written are the text; never where there are fewer.
@@ -55,24 +56,24 @@ fn is_given(c: Cluster) -> bool {
     )
 }
 
-fn tried(text: &[u8]) {
+fn tried(streams: &Streams, text: &[u8]) {
     let o = loads::load(given(), text);
     let c = o.cluster;
     let a = o.answer;
     let chars = answers::write_answer(a);
-    say(&chars);
+    say(streams, &chars);
     let Answer::Done = a else {
         if is_given(c) {
-            say(b"kept");
+            say(streams, b"kept");
         } else {
-            say(b"lost");
+            say(streams, b"lost");
         }
         return;
     };
     if saves_to(c, text) {
-        say(b"same");
+        say(streams, b"same");
     } else {
-        say(b"other");
+        say(streams, b"other");
     }
 }
 
@@ -104,7 +105,7 @@ fn text_end(part: &[u8], past: usize) -> usize {
 }
 
 // A case's text begins after its name; it may be empty, as a saved file may.
-fn tried_after(part: &[u8], past: usize) {
+fn tried_after(streams: &Streams, part: &[u8], past: usize) {
     let end = text_end(part, past);
     if end < past {
         return;
@@ -112,18 +113,18 @@ fn tried_after(part: &[u8], past: usize) {
     if part.len() < end {
         return;
     }
-    tried(&part[past..end]);
+    tried(streams, &part[past..end]);
 }
 
 // A line that begins with # or =, and all up to the next one. That line is written first, so that the answer stands under the name.
-fn taken(part: &[u8]) {
+fn taken(streams: &Streams, part: &[u8]) {
     let n = first_feed(part);
     if part.len() <= n {
         return;
     }
-    say(&part[..n]);
+    say(streams, &part[..n]);
     if part[0] == b'=' {
-        tried_after(part, n + 1);
+        tried_after(streams, part, n + 1);
     }
 }
 
@@ -142,26 +143,33 @@ fn begins(text: &[u8], i: usize) -> bool {
 }
 
 // The cases one after another; each is whole where the next begins.
-fn take_cases(text: &[u8]) {
+fn take_cases(streams: &Streams, text: &[u8]) {
     let mut start: usize = 0;
     let mut i: usize = 0;
     while i < text.len() {
         if begins(text, i) {
-            taken(&text[start..i]);
+            taken(streams, &text[start..i]);
             start = i;
         }
         i += 1;
     }
-    taken(&text[start..i]);
+    taken(streams, &text[start..i]);
 }
 
 // A text that fills the buffer may have been cut, and is refused.
-fn main() {
+fn run(streams: &Streams) {
     let mut text = io::large_buffer();
-    let n = io::read_full(STDIN_FILENO, &mut text);
+    let mut input = streams.input();
+    let n = input.read_full(&mut text);
     if text.len() <= n {
-        say(b"? too long");
+        say(streams, b"? too long");
         return;
     }
-    take_cases(&text[..n]);
+    take_cases(streams, &text[..n]);
+}
+
+fn main(rt: HostRuntime) -> ExitCode {
+    let streams = Streams::new(rt.stdin(), rt.stdout(), rt.stderr());
+    run(&streams);
+    streams.status()
 }

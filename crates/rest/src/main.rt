@@ -7,6 +7,11 @@
 // a log of 127 and of 128 at a write (51 to 188: lines 180 and 181 are the two writes).
 #![tactic(auto)]
 
-fn main() {
-    shell::run();
+use std::process::ExitCode;
+use streams::Streams;
+
+fn main(rt: HostRuntime) -> ExitCode {
+    let streams = Streams::new(rt.stdin(), rt.stdout(), rt.stderr());
+    shell::run(&rt, &streams);
+    streams.status()
 }

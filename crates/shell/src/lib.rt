@@ -17,14 +17,16 @@ ghost use Rattle.shell.specs.Loop.{closed_by, finished_by, Poured, Finishes, Ans
 ghost use Rattle.shell.specs.AsOrdered.{answers_due, is_quiet_by, is_saved_by, BeginsBy, RunsBy};
 
 use cluster::Cluster;
-use libc::{STDIN_FILENO, STDOUT_FILENO};
 use lines::{End, PIECE};
 use orders::{Ordered, Orders};
 use replay::Session;
 use saves::Led;
+use std::rt::Files;
+use streams::Streams;
 use trails::{Wanted, follow};
 
-const ORDERS_FILENO: i32 = 7;
+// Where the orders are read: what is open at descriptor 7.
+const ORDERS: &str = "/dev/fd/7";
 
 // Room for the answers to all that is read at once, even where every byte is a line.
 const ROOM: usize = PIECE * replay::ANSWER_LINE;
@@ -35,12 +37,12 @@ pub struct Drained {
     pub end: End,
 }
 
-// Writes the first n bytes of the buffer to a descriptor, and says whether that went well.
-fn write_first(fd: i32, out: &[u8], n: usize) -> bool {
+// Writes the first n bytes of the buffer to standard output, and says whether that went well.
+fn write_first(streams: &Streams, out: &[u8], n: usize) -> bool {
     if out.len() < n {
         return false;
     }
-    io::write_all(fd, &out[..n])
+    streams.write(&out[..n])
 }
 
 // How many of the bytes that answers have are written: none where the run is quiet.
@@ -67,7 +69,7 @@ fn closed(s: Session, wrote: bool) -> Drained
 }
 
 // All of one piece, in one go: there is room for every answer.
-fn pour(quiet: bool, s: Session, piece: &[u8], out: &mut [u8]) -> Drained
+fn pour(streams: &Streams, quiet: bool, s: Session, piece: &[u8], out: &mut [u8]) -> Drained
     requires { answer_line * length piece.now ≤ length out.old }
     ensures result { Poured s piece.now result }
     ensures output { out.new ≡ placed out.old 0 (says s piece.now) }
@@ -75,11 +77,18 @@ fn pour(quiet: bool, s: Session, piece: &[u8], out: &mut [u8]) -> Drained
     let f = replay::pour(s, piece, out);
     let d = f.session;
     let n = answers_due(quiet, f.wrote);
-    closed(d, write_first(STDOUT_FILENO, out, n))
+    closed(d, write_first(streams, out, n))
 }
 
 // One turn with what a read answered: a short piece is a piece like any other, and only none at all is the end of the input.
-fn turn(quiet: bool, s: Session, buffer: &[u8], got: isize, out: &mut [u8]) -> Drained
+fn turn(
+    streams: &Streams,
+    quiet: bool,
+    s: Session,
+    buffer: &[u8],
+    got: isize,
+    out: &mut [u8],
+) -> Drained
     requires { answer_line * length buffer.now ≤ length out.old }
     ensures { TurnsBy runs s buffer.now got result.session result.end }
 {
@@ -96,11 +105,11 @@ fn turn(quiet: bool, s: Session, buffer: &[u8], got: isize, out: &mut [u8]) -> D
         };
     }
     let n = io::count(got, buffer);
-    pour(quiet, s, &buffer[..n], out)
+    pour(streams, quiet, s, &buffer[..n], out)
 }
 
 // Standard input to its end. The count of turns only makes the loop end: nobody lives to see it run out.
-fn drain(quiet: bool, s: Session, out: &mut [u8]) -> Drained
+fn drain(streams: &Streams, quiet: bool, s: Session, out: &mut [u8]) -> Drained
     requires { answer_line * most_piece ≤ length out.old }
     ensures { DrainsBy runs s result.session result.end }
 {
@@ -108,8 +117,8 @@ fn drain(quiet: bool, s: Session, out: &mut [u8]) -> Drained
     let mut turns = u64::MAX;
     while turns > 0 {
         let mut buffer = [0; PIECE];
-        let got = libc::read(STDIN_FILENO, &mut buffer);
-        let t = turn(quiet, d, &buffer, got, out);
+        let got = streams.read(&mut buffer);
+        let t = turn(streams, quiet, d, &buffer, got, out);
         let e = t.session;
         d = e;
         let end = t.end;
@@ -128,11 +137,11 @@ fn drain(quiet: bool, s: Session, out: &mut [u8]) -> Drained
 }
 
 // The last record: all went well where the last answer was written, and otherwise that is said.
-fn finished(c: Cluster, wrote: bool) -> Led
+fn finished(streams: &Streams, c: Cluster, wrote: bool) -> Led
     ensures { result ≡ finished_by c wrote }
 {
     if !wrote {
-        say::cannot_write();
+        say::cannot_write(streams);
     }
     Led {
         cluster: c,
@@ -141,7 +150,7 @@ fn finished(c: Cluster, wrote: bool) -> Led
 }
 
 // The end of the input: the rest is answered.
-fn ended(quiet: bool, s: Session, out: &mut [u8]) -> Led
+fn ended(streams: &Streams, quiet: bool, s: Session, out: &mut [u8]) -> Led
     requires { answer_line ≤ length out.old }
     ensures { Finishes s result }
 {
@@ -149,16 +158,16 @@ fn ended(quiet: bool, s: Session, out: &mut [u8]) -> Led
     let d = f.session;
     let c = d.cluster;
     let n = answers_due(quiet, f.wrote);
-    finished(c, write_first(STDOUT_FILENO, out, n))
+    finished(streams, c, write_first(streams, out, n))
 }
 
 // Says why the input wasn't answered to its end.
-fn broke_off(quiet: bool, c: Cluster, end: End) -> Led
+fn broke_off(streams: &Streams, quiet: bool, c: Cluster, end: End) -> Led
     ensures { result ≡ record { cluster = c; well = false } }
 {
     match end {
-        End::CannotWrite => say::cannot_write(),
-        _ => say::cannot_read(quiet),
+        End::CannotWrite => say::cannot_write(streams),
+        _ => say::cannot_read(streams, quiet),
     }
     Led {
         cluster: c,
@@ -167,29 +176,29 @@ fn broke_off(quiet: bool, c: Cluster, end: End) -> Led
 }
 
 // All of standard input, answered from the record on; the record after it.
-fn answered(quiet: bool, c: Cluster) -> Led
+fn answered(streams: &Streams, quiet: bool, c: Cluster) -> Led
     ensures { Answered c result }
 {
     let mut out = [0; ROOM];
-    let p = drain(quiet, replay::begin(c), &mut out);
+    let p = drain(streams, quiet, replay::begin(c), &mut out);
     let d = p.session;
     let last = d.cluster;
     let end = p.end;
     let End::Input = end else {
-        return broke_off(quiet, last, end);
+        return broke_off(streams, quiet, last, end);
     };
-    ended(quiet, d, &mut out)
+    ended(streams, quiet, d, &mut out)
 }
 
 // All of standard input, traced from the record on; the record after it.
-fn traced(w: Wanted, c: Cluster) -> Led
+fn traced(streams: &Streams, w: Wanted, c: Cluster) -> Led
     ensures { TracedAll c result }
 {
-    let t = follow::follow(w, c);
+    let t = follow::follow(streams, w, c);
     let d = t.cluster;
     let end = t.end;
     let End::Input = end else {
-        return broke_off(false, d, end);
+        return broke_off(streams, false, d, end);
     };
     Led {
         cluster: d,
@@ -198,11 +207,11 @@ fn traced(w: Wanted, c: Cluster) -> Led
 }
 
 // The record that a run begins with: one that is loaded, or the one before the first start.
-fn first_record(o: Orders) -> Led
+fn first_record<R: Files>(files: &R, streams: &Streams, o: Orders) -> Led
     ensures { BeginsBy o result }
 {
     if o.load {
-        return saves::load();
+        return saves::load(files, streams);
     }
     Led {
         cluster: cluster::zero_cluster(),
@@ -218,10 +227,10 @@ fn is_quiet(o: Orders) -> bool
 }
 
 // A run as ordered: the record after it. Where there is none to begin with, nothing is read.
-fn run_through(o: Orders) -> Led
+fn run_through<R: Files>(files: &R, streams: &Streams, o: Orders) -> Led
     ensures { RunsBy o result }
 {
-    let l = first_record(o);
+    let l = first_record(files, streams, o);
     if !l.well {
         return l;
     }
@@ -232,9 +241,9 @@ fn run_through(o: Orders) -> Led
             before: o.before,
             last: o.last,
         };
-        return traced(w, c);
+        return traced(streams, w, c);
     }
-    answered(is_quiet(o), c)
+    answered(streams, is_quiet(o), c)
 }
 
 // Whether the record is saved.
@@ -245,33 +254,34 @@ fn is_saved(o: Orders, well: bool) -> bool
 }
 
 // A run as ordered, and what is left of it: the table, the plan, and then the saved form, unless one before it couldn't be written.
-fn obey(o: Orders) {
-    let l = run_through(o);
+fn obey<R: Files>(files: &R, streams: &Streams, o: Orders) {
+    let l = run_through(files, streams, o);
     let c = l.cluster;
     let mut well = l.well;
     if o.list && well {
-        well = list::table(c);
+        well = list::table(streams, c);
     }
     if o.recover && well {
-        well = recover::plan(c, o.key, o.value);
+        well = recover::plan(streams, c, o.key, o.value);
     }
     if is_saved(o, well) {
-        saves::store(c);
+        saves::store(files, streams, c);
     }
 }
 
 // The orders that were given: none where the descriptor is closed. One byte more than the line has is read, by which a longer text is told.
-fn given() -> Ordered {
+fn given<R: Files>(files: &R) -> Ordered {
     let mut text = [0; orders::ORDER_LINE + 1];
-    let n = io::read_full(ORDERS_FILENO, &mut text);
+    let mut source = streams::open(files, ORDERS);
+    let n = source.read_full(&mut text);
     orders::orders_in(&text[..n])
 }
 
 // The program. What it reads and writes no contract can say.
-pub fn run() {
-    let ordered = given();
+pub fn run<R: Files>(files: &R, streams: &Streams) {
+    let ordered = given(files);
     match ordered {
-        Ordered::Known(o) => obey(o),
-        Ordered::Unknown => say::unknown_orders(),
+        Ordered::Known(o) => obey(files, streams, o),
+        Ordered::Unknown => say::unknown_orders(streams),
     }
 }

@@ -3,10 +3,10 @@
 use crate::say;
 use clock::Time;
 use cluster::{Cluster, Server};
-use libc::STDOUT_FILENO;
 use reads::lists;
 use reads::lists::Listed;
 use server_log::rows::KEYS;
+use streams::Streams;
 
 // Where the columns of a row begin.
 const ROLE: usize = 8;
@@ -79,11 +79,11 @@ fn time(r: Row, t: Time) -> Row {
 }
 
 // Writes the row, where all before it could be written, and begins another.
-fn next(r: Row) -> Row {
+fn next(streams: &Streams, r: Row) -> Row {
     let q = put(r, b"\n");
     let text = q.text;
     let n = q.fill;
-    blank(q.wrote && crate::write_first(STDOUT_FILENO, &text, n))
+    blank(q.wrote && crate::write_first(streams, &text, n))
 }
 
 // The row with a car and its build in a column; one that isn't known to be safe has a star.
@@ -103,21 +103,21 @@ fn with_car(r: Row, column: usize, key: usize, value: u16, safe: u16) -> Row {
 }
 
 // The same in the next column, which is in another row where this one is full.
-fn car(r: Row, key: usize, value: u16, safe: u16) -> Row {
+fn car(streams: &Streams, r: Row, key: usize, value: u16, safe: u16) -> Row {
     let column = r.car;
     if LAST_CAR < column {
-        return with_car(next(r), FIRST_CAR, key, value, safe);
+        return with_car(next(streams, r), FIRST_CAR, key, value, safe);
     }
     with_car(r, column, key, value, safe)
 }
 
-fn cars(r: Row, values: [u16; KEYS], safe: [u16; KEYS]) -> Row {
+fn cars(streams: &Streams, r: Row, values: [u16; KEYS], safe: [u16; KEYS]) -> Row {
     let mut q = r;
     let mut key: usize = 0;
     while key < KEYS {
         let value = values[key];
         if 0 < value {
-            q = car(q, key, value, safe[key]);
+            q = car(streams, q, key, value, safe[key]);
         }
         key += 1;
     }
@@ -125,17 +125,17 @@ fn cars(r: Row, values: [u16; KEYS], safe: [u16; KEYS]) -> Row {
 }
 
 // Writes the rows of one part of a log.
-fn part(r: Row, words: &[u8], l: Listed, safe: [u16; KEYS]) -> Row {
+fn part(streams: &Streams, r: Row, words: &[u8], l: Listed, safe: [u16; KEYS]) -> Row {
     let t = l.time;
     let latest = l.latest;
     let values = latest.values;
     let named = put(to_column(r, PART), words);
     let timed = time(to_column(named, AS_OF), t);
-    let q = cars(timed, values, safe);
+    let q = cars(streams, timed, values, safe);
     if q.car == FIRST_CAR {
-        return next(put(to_column(q, FIRST_CAR), b"no build"));
+        return next(streams, put(to_column(q, FIRST_CAR), b"no build"));
     }
-    next(q)
+    next(streams, q)
 }
 
 fn differ(a: [u16; KEYS], b: [u16; KEYS]) -> bool {
@@ -161,17 +161,17 @@ fn role(r: Row, primary: bool, votes: bool) -> Row {
 }
 
 // Writes the rows of a server's committed beginning.
-fn committed(r: Row, s: Server, l: Listed) -> Row {
+fn committed(streams: &Streams, r: Row, s: Server, l: Listed) -> Row {
     if s.head.commit == 0 {
-        return next(put(to_column(r, PART), b"committed  nothing"));
+        return next(streams, put(to_column(r, PART), b"committed  nothing"));
     }
     let latest = l.latest;
     let safe = latest.values;
-    part(r, b"committed", l, safe)
+    part(streams, r, b"committed", l, safe)
 }
 
 // Writes a server's rows, where all before them could be written; whether they could.
-fn server(i: usize, votes: bool, s: Server, wrote: bool) -> bool {
+fn server(streams: &Streams, i: usize, votes: bool, s: Server, wrote: bool) -> bool {
     let covered = lists::committed_list(s);
     let whole = lists::whole_list(s);
     let committed_row = covered.latest;
@@ -181,23 +181,22 @@ fn server(i: usize, votes: bool, s: Server, wrote: bool) -> bool {
     let numbered = number(blank(wrote), i);
     let named = role(to_column(numbered, ROLE), s.head.primary, votes);
     let begun = number(to_column(named, TERM), s.head.term as usize);
-    let first = committed(begun, s, covered);
+    let first = committed(streams, begun, s, covered);
     if !differ(values, safe) {
         return first.wrote;
     }
-    let last = part(first, b"whole log", whole, safe);
+    let last = part(streams, first, b"whole log", whole, safe);
     last.wrote
 }
 
 // Writes the table, or says why it can't be; whether it is written.
-pub(crate) fn table(c: Cluster) -> bool {
+pub(crate) fn table(streams: &Streams, c: Cluster) -> bool {
     let count = c.count;
     if count == 0 {
-        say::nothing_to_list();
+        say::nothing_to_list(streams);
         return false;
     }
-    let mut wrote = io::write_all(
-        STDOUT_FILENO,
+    let mut wrote = streams.write(
         b"server  role       term   part       as of          car:build (* not known to be safe yet)\n",
     );
     let mut i: usize = 0;
@@ -205,12 +204,12 @@ pub(crate) fn table(c: Cluster) -> bool {
         if i < count {
             let s = c.servers[i];
             let votes = cluster::sets::does_vote(c.followers, i);
-            wrote = server(i, votes, s, wrote);
+            wrote = server(streams, i, votes, s, wrote);
         }
         i += 1;
     }
     if !wrote {
-        say::cannot_list();
+        say::cannot_list(streams);
     }
     wrote
 }

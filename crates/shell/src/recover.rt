@@ -3,10 +3,10 @@
 use crate::say;
 use crate::say::{number, say};
 use cluster::{Cluster, Head, Server};
-use libc::STDOUT_FILENO;
 use lines::LINE_FEED;
 use plans::MOST_FRAMES;
 use steps::{Answer, Frame, Refusal};
+use streams::Streams;
 
 // How long a step line is, with its line feed.
 const LINE: usize = frames::STEP_CHARS + 1;
@@ -107,122 +107,129 @@ fn is_something(stands: Stands) -> bool {
     }
 }
 
-fn server(words: &[u8], i: usize) {
-    say(words);
-    number(b" of server ", i);
+fn server(streams: &Streams, words: &[u8], i: usize) {
+    say(streams, words);
+    number(streams, b" of server ", i);
 }
 
-fn of_server(i: usize, stands: Stands) {
+fn of_server(streams: &Streams, i: usize, stands: Stands) {
     match stands {
         Stands::Nothing => (),
         Stands::Full => {
-            server(b"the log", i);
-            number(b" is full, with ", server_log::LOG_LIMIT);
+            server(streams, b"the log", i);
+            number(streams, b" is full, with ", server_log::LOG_LIMIT);
             say(
+                streams,
                 b" entries, and the plan's write would have to go there too; a rollback may shorten it, or a start line begins a new cluster\n",
             );
         }
         Stands::Term => {
-            server(b"the term", i);
-            for_ever();
+            server(streams, b"the term", i);
+            for_ever(streams);
         }
         Stands::Wall => {
-            server(b"the wall clock", i);
-            for_ever();
+            server(streams, b"the wall clock", i);
+            for_ever(streams);
         }
         Stands::P => {
-            server(b"the p of the cluster time", i);
-            at_its_highest();
+            server(streams, b"the p of the cluster time", i);
+            at_its_highest(streams);
             say(
+                streams,
                 b"; where its last entry has an earlier time a restart (kind 09) takes it back, or else begin a new cluster with a start line\n",
             );
         }
         Stands::L => {
-            server(b"the l of the cluster time", i);
-            at_its_highest();
+            server(streams, b"the l of the cluster time", i);
+            at_its_highest(streams);
             say(
+                streams,
                 b"; it passes with the next write once the wall clock is ahead of p: let wall clocks tick (kind 08), write, and let the others hear of it\n",
             );
         }
     }
 }
 
-fn at_its_highest() {
-    number(b" is ", clock::LIMIT as usize);
-    say(b", its highest");
+fn at_its_highest(streams: &Streams) {
+    number(streams, b" is ", clock::LIMIT as usize);
+    say(streams, b", its highest");
 }
 
-fn for_ever() {
-    at_its_highest();
-    say(b", and stays there: begin a new cluster with a start line\n");
+fn for_ever(streams: &Streams) {
+    at_its_highest(streams);
+    say(
+        streams,
+        b", and stays there: begin a new cluster with a start line\n",
+    );
 }
 
 // Tells what stands in the way at the lowest server that has it.
-fn in_the_way_of_all(c: Cluster, full: bool) {
+fn in_the_way_of_all(streams: &Streams, c: Cluster, full: bool) {
     let mut told = false;
     let mut i: usize = 0;
     while i < cluster::MOST_SERVERS {
         if i < c.count && !told {
             let s = c.servers[i];
             let stands = in_the_way(s, full);
-            of_server(i, stands);
+            of_server(streams, i, stands);
             told = is_something(stands);
         }
         i += 1;
     }
 }
 
-fn out_of_range(key: u8) {
+fn out_of_range(streams: &Streams, key: u8) {
     if server_log::HIGHEST_KEY < key {
-        number(b"a key is 0 to ", server_log::HIGHEST_KEY as usize);
+        number(streams, b"a key is 0 to ", server_log::HIGHEST_KEY as usize);
     } else {
-        number(b"a value is 1 to ", clock::LIMIT as usize);
+        number(streams, b"a value is 1 to ", clock::LIMIT as usize);
     }
-    say(b"\n");
+    say(streams, b"\n");
 }
 
 // Says why there is no plan.
-fn refused(c: Cluster, key: u8, r: Refusal) {
+fn refused(streams: &Streams, c: Cluster, key: u8, r: Refusal) {
     match r {
         Refusal::OutOfRange => {
-            say::no_plan(3);
-            out_of_range(key);
+            say::no_plan(streams, 3);
+            out_of_range(streams, key);
         }
         Refusal::LogFull => {
-            say::no_plan(6);
-            in_the_way_of_all(c, true);
+            say::no_plan(streams, 6);
+            in_the_way_of_all(streams, c, true);
         }
         Refusal::AtLimit => {
-            say::no_plan(7);
-            in_the_way_of_all(c, false);
+            say::no_plan(streams, 7);
+            in_the_way_of_all(streams, c, false);
         }
         Refusal::BelowCommitPoint => {
-            say::no_plan(9);
+            say::no_plan(streams, 9);
             say(
+                streams,
                 b"it would roll back what a commit point covers; no run from a start line comes to this record, so what was loaded was made or changed by hand\n",
             );
         }
         _ => {
-            say::no_plan(2);
-            say(b"no start line has begun a cluster\n");
+            say::no_plan(streams, 2);
+            say(streams, b"no start line has begun a cluster\n");
         }
     }
 }
 
 // Writes the plan's step lines, or says why it can't; whether they are written.
-pub(crate) fn plan(c: Cluster, key: u8, value: u16) -> bool {
+pub(crate) fn plan(streams: &Streams, c: Cluster, key: u8, value: u16) -> bool {
     let p = plans::plan(c, key, value);
     let answer = p.answer;
     if let Answer::Refused(r) = answer {
-        refused(c, key, r);
+        refused(streams, c, key, r);
         return false;
     }
     let all = p.frames;
     let l = lines_of(all, p.count);
     let text = l.text;
-    let wrote = crate::write_first(STDOUT_FILENO, &text, l.fill);
+    let wrote = crate::write_first(streams, &text, l.fill);
     if !wrote {
-        say::cannot_plan();
+        say::cannot_plan(streams);
     }
     wrote
 }

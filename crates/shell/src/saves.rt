@@ -7,11 +7,15 @@ use cluster::Cluster;
 use lines::{End, PIECE};
 use saved::Saved;
 use shapes::Shape;
+use std::io::Read;
+use std::rt::Files;
 use steps::Answer;
+use streams::{Source, Streams};
 
-const LOAD_FILENO: i32 = 5;
+// Where a record is loaded from, and saved to: what is open at descriptors 5 and 6.
+const LOAD: &str = "/dev/fd/5";
 
-const SAVE_FILENO: i32 = 6;
+const SAVE: &str = "/dev/fd/6";
 
 // Room for the longest saved form, and for a byte more, by which a longer text is told.
 const KEPT: usize = saved::LONGEST + 1;
@@ -58,7 +62,7 @@ fn walk_turn(w: Walked, buffer: &[u8], got: isize) -> Walked
 }
 
 // The rest of a text whose beginning has this shape: it is read to its end and let go.
-fn walk_on(s: Shape) -> Walked
+fn walk_on<F: Read>(source: &mut Source<F>, s: Shape) -> Walked
     ensures { WalksOn s result }
 {
     let mut w = Walked {
@@ -69,7 +73,7 @@ fn walk_on(s: Shape) -> Walked
     let mut turns = u64::MAX;
     while turns > 0 {
         let mut buffer = [0; PIECE];
-        let got = libc::read(LOAD_FILENO, &mut buffer);
+        let got = source.read(&mut buffer);
         let next = walk_turn(w, &buffer, got);
         w = next;
         let end = next.end;
@@ -82,12 +86,12 @@ fn walk_on(s: Shape) -> Walked
 }
 
 // Says why a text is refused: its shape, or what of it no record has.
-fn explain(text: &[u8], shape: Shape) {
+fn explain(streams: &Streams, text: &[u8], shape: Shape) {
     if !shapes::is_shaped(shape) {
-        say::misshapen(shape);
+        say::misshapen(streams, shape);
         return;
     }
-    tell::ill_formed(faults::first_fault(text));
+    tell::ill_formed(streams, faults::first_fault(text));
 }
 
 fn not_led() -> Led
@@ -101,18 +105,18 @@ fn not_led() -> Led
 
 // The record that a text loads, or why it loads none. One that is longer than any saved form is here as far as that, and its shape is told
 // to its end.
-fn loaded(text: &[u8], shape: Shape) -> Led
+fn loaded(streams: &Streams, text: &[u8], shape: Shape) -> Led
     ensures { result ≡ led_of text.now }
 {
     if saved::LONGEST < text.len() {
-        explain(text, shape);
+        explain(streams, text, shape);
         return not_led();
     }
     let o = loads::load(cluster::zero_cluster(), text);
     let c = o.cluster;
     let answer = o.answer;
     let Answer::Done = answer else {
-        explain(text, shape);
+        explain(streams, text, shape);
         return not_led();
     };
     Led {
@@ -122,34 +126,43 @@ fn loaded(text: &[u8], shape: Shape) -> Led
 }
 
 // The record that was saved. The text is kept as far as a saved form can be long; reading on tells whether that was all.
-pub(crate) fn load() -> Led
+pub(crate) fn load<R: Files>(files: &R, streams: &Streams) -> Led
     ensures { Loads result }
 {
     let mut kept = [0; KEPT];
-    let n = io::read_full(LOAD_FILENO, &mut kept);
-    let w = walk_on(shapes::walk(shapes::begin(), &kept[..n]));
+    let mut source = streams::open(files, LOAD);
+    let n = source.read_full(&mut kept);
+    let w = walk_on(&mut source, shapes::walk(shapes::begin(), &kept[..n]));
     let shape = w.shape;
     let end = w.end;
     let End::Input = end else {
-        say::cannot_load();
+        say::cannot_load(streams);
         return not_led();
     };
     if w.came && n <= saved::LONGEST {
-        say::cannot_load();
+        say::cannot_load(streams);
         return not_led();
     }
-    loaded(&kept[..n], shape)
+    loaded(streams, &kept[..n], shape)
+}
+
+// Writes the first n bytes of the buffer where a record is saved to, and says whether that went well.
+fn write_saved<R: Files>(files: &R, streams: &Streams, out: &[u8], n: usize) -> bool {
+    if out.len() < n {
+        return false;
+    }
+    streams.went_well(streams::write_to(files, SAVE, &out[..n]))
 }
 
 // Saves the record, or says why it can't be.
-pub(crate) fn store(c: Cluster) {
+pub(crate) fn store<R: Files>(files: &R, streams: &Streams, c: Cluster) {
     let mut text = [0; saved::LONGEST];
     let s = saved::save(c, &mut text);
     let Saved::Text(n) = s else {
-        say::nothing_to_save();
+        say::nothing_to_save(streams);
         return;
     };
-    if !crate::write_first(SAVE_FILENO, &text, n) {
-        say::cannot_save();
+    if !write_saved(files, streams, &text, n) {
+        say::cannot_save(streams);
     }
 }

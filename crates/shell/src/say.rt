@@ -1,114 +1,153 @@
 // What is said on standard error, in sentences: what went wrong, where, and what became of it.
 use clock::Time;
-use libc::STDERR_FILENO;
 use saved::Sort;
 use shapes::{Due, Shape};
+use streams::Streams;
 
-pub(crate) fn say(words: &[u8]) {
-    io::write_all(STDERR_FILENO, words);
+pub(crate) fn say(streams: &Streams, words: &[u8]) {
+    streams.say(words);
 }
 
 // Words, and the number that they lead to.
-pub(crate) fn number(words: &[u8], n: usize) {
-    say(words);
-    io::print_decimal(STDERR_FILENO, n as u64);
+pub(crate) fn number(streams: &Streams, words: &[u8], n: usize) {
+    say(streams, words);
+    streams.say_decimal(n as u64);
 }
 
 // Words, and the time that they lead to.
-pub(crate) fn time(words: &[u8], t: Time) {
-    say(words);
-    number(b"(", t.p as usize);
-    number(b",", t.l as usize);
-    say(b")");
+pub(crate) fn time(streams: &Streams, words: &[u8], t: Time) {
+    say(streams, words);
+    number(streams, b"(", t.p as usize);
+    number(streams, b",", t.l as usize);
+    say(streams, b")");
 }
 
-pub(crate) fn unknown_orders() {
+pub(crate) fn unknown_orders(streams: &Streams) {
     say(
+        streams,
         b"replay: nothing is done: descriptor 7 has orders that this program doesn't know; it knows a line of 24 characters 0-9 a-f that begins with 0 to 3, or nothing at all\n",
     );
 }
 
-pub(crate) fn cannot_write() {
-    say(b"replay: standard output can't be written, so the answers break off here\n");
+pub(crate) fn cannot_write(streams: &Streams) {
+    say(
+        streams,
+        b"replay: standard output can't be written, so the answers break off here\n",
+    );
 }
 
 // A quiet run has answered nothing.
-pub(crate) fn cannot_read(quiet: bool) {
-    say(b"replay: standard input can't be read any further");
+pub(crate) fn cannot_read(streams: &Streams, quiet: bool) {
+    say(streams, b"replay: standard input can't be read any further");
     if quiet {
-        say(b", so nothing is made of them: no table, and no plan\n");
+        say(
+            streams,
+            b", so nothing is made of them: no table, and no plan\n",
+        );
     } else {
-        say(b"; the lines before are answered\n");
+        say(streams, b"; the lines before are answered\n");
     }
 }
 
-pub(crate) fn cannot_save() {
-    say(b"replay: the record can't be written where it is to be saved; is there room?\n");
+pub(crate) fn cannot_save(streams: &Streams) {
+    say(
+        streams,
+        b"replay: the record can't be written where it is to be saved; is there room?\n",
+    );
 }
 
 // A record that is not well formed, which after lines is only the one before the first start.
-pub(crate) fn nothing_to_save() {
-    say(b"replay: there is nothing to save (refusal 2): no start line has begun a cluster\n");
+pub(crate) fn nothing_to_save(streams: &Streams) {
+    say(
+        streams,
+        b"replay: there is nothing to save (refusal 2): no start line has begun a cluster\n",
+    );
 }
 
 // The same before a table.
-pub(crate) fn nothing_to_list() {
-    say(b"replay: there is nothing to list: no start line has begun a cluster\n");
+pub(crate) fn nothing_to_list(streams: &Streams) {
+    say(
+        streams,
+        b"replay: there is nothing to list: no start line has begun a cluster\n",
+    );
 }
 
-pub(crate) fn cannot_list() {
-    say(b"replay: standard output can't be written, so the table breaks off here\n");
+pub(crate) fn cannot_list(streams: &Streams) {
+    say(
+        streams,
+        b"replay: standard output can't be written, so the table breaks off here\n",
+    );
 }
 
-pub(crate) fn cannot_plan() {
-    say(b"replay: standard output can't be written, so the plan breaks off here\n");
+pub(crate) fn cannot_plan(streams: &Streams) {
+    say(
+        streams,
+        b"replay: standard output can't be written, so the plan breaks off here\n",
+    );
 }
 
 // How every sentence on a plan that isn't made begins.
-pub(crate) fn no_plan(refusal: usize) {
-    number(b"replay: there is no plan (refusal ", refusal);
-    say(b"): ");
+pub(crate) fn no_plan(streams: &Streams, refusal: usize) {
+    number(streams, b"replay: there is no plan (refusal ", refusal);
+    say(streams, b"): ");
 }
 
-pub(crate) fn cannot_load() {
-    say(b"replay: the saved record can't be read to its end, so nothing is loaded\n");
+pub(crate) fn cannot_load(streams: &Streams) {
+    say(
+        streams,
+        b"replay: the saved record can't be read to its end, so nothing is loaded\n",
+    );
 }
 
 // How every sentence on a refused load begins.
-pub(crate) fn nothing_loaded(refusal: usize) {
+pub(crate) fn nothing_loaded(streams: &Streams, refusal: usize) {
     number(
+        streams,
         b"replay: nothing is loaded, and no line is answered (refusal ",
         refusal,
     );
-    say(b"): ");
+    say(streams, b"): ");
 }
 
 // The frame that is due, as a person finds it in the file.
-fn frame(s: Sort) {
+fn frame(streams: &Streams, s: Sort) {
     match s {
         Sort::First => say(
+            streams,
             b"a first frame: 6 characters 0-9 a-f that begin with 0001 or 0002, or 8 that begin with 0003",
         ),
-        Sort::Server => say(b"a server: 34 characters 0-9 a-f that begin with 01"),
-        Sort::Entry => say(b"an entry: 20 characters 0-9 a-f that begin with 02"),
-        Sort::Note => say(b"a note: 16 characters 0-9 a-f that begin with 03"),
-        Sort::Report => say(b"a report: 16 characters 0-9 a-f that begin with 04"),
+        Sort::Server => say(
+            streams,
+            b"a server: 34 characters 0-9 a-f that begin with 01",
+        ),
+        Sort::Entry => say(
+            streams,
+            b"an entry: 20 characters 0-9 a-f that begin with 02",
+        ),
+        Sort::Note => say(streams, b"a note: 16 characters 0-9 a-f that begin with 03"),
+        Sort::Report => say(
+            streams,
+            b"a report: 16 characters 0-9 a-f that begin with 04",
+        ),
     }
 }
 
 // What should stand in the line where the shape is broken, or where the text ends.
-fn due(d: Due, broken: bool) {
+fn due(streams: &Streams, d: Due, broken: bool) {
     let Due::Frame(s) = d else {
-        say(b" is left over: all that the lines before it announce is there\n");
+        say(
+            streams,
+            b" is left over: all that the lines before it announce is there\n",
+        );
         return;
     };
     if broken {
-        say(b" should be ");
+        say(streams, b" should be ");
     } else {
-        say(b" is missing or not ended; it should be ");
+        say(streams, b" is missing or not ended; it should be ");
     }
-    frame(s);
-    say(b", and then a line feed\n");
+    frame(streams, s);
+    say(streams, b", and then a line feed\n");
 }
 
 // The edition that a line names where it begins as a first frame does, and whether that isn't known.
@@ -153,17 +192,18 @@ fn first_line(s: Shape) -> Named {
 }
 
 // Refusal 1: the line and what was due there, or the edition that isn't known.
-pub(crate) fn misshapen(s: Shape) {
-    nothing_loaded(1);
-    number(b"line ", s.number);
+pub(crate) fn misshapen(streams: &Streams, s: Shape) {
+    nothing_loaded(streams, 1);
+    number(streams, b"line ", s.number);
     let first = first_line(s);
     if first.unknown {
-        number(b" names edition ", first.edition as usize);
+        number(streams, b" names edition ", first.edition as usize);
         say(
+            streams,
             b", which this program doesn't know: it is newer than the program, or there is none; editions 1 to 3 are known\n",
         );
         return;
     }
     let broken = s.broken;
-    due(shapes::expected(s), broken);
+    due(streams, shapes::expected(s), broken);
 }

@@ -6,7 +6,7 @@ use Prim.Native.Nat.{ℕ, zero, suc, ◌+◌, ◌-◌, ◌*◌, ◌/◌, ◌^◌
 use native.Mathlib.Numerals.{add-one}
 use native.Mathlib.Omega.{arith}
 use lib.Dec.{eqb, leb}
-use lib.ListN.{length, take, set, length-set, length-append, length-take}
+use lib.ListN.{length, set, length-set, length-append, length-take}
 use lib.Seq.{append_snoc, take-suc-set}
 use borrow.Author.Tests.{lt-ltb}
 use Rattle.io.specs.Digits.{last_digits}

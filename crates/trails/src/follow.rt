@@ -6,8 +6,8 @@ ghost use Rattle.trails.specs.Loop.{written_by, PassedOn, Ends, Follows};
 
 use crate::Wanted;
 use cluster::Cluster;
-use libc::{STDIN_FILENO, STDOUT_FILENO};
 use lines::{End, LINE_FEED, PIECE};
+use streams::Streams;
 use traces::CutLine;
 
 // Where a run is: its record, what is kept of a line, and how many lines have gone before it.
@@ -33,14 +33,14 @@ pub struct Traced {
 }
 
 // Writes the first n bytes of the buffer, where all before them could be written; whether they could.
-fn write_on(wrote: bool, out: &[u8], n: usize) -> bool {
+fn write_on(streams: &Streams, wrote: bool, out: &[u8], n: usize) -> bool {
     if !wrote {
         return false;
     }
     if out.len() < n {
         return false;
     }
-    io::write_all(STDOUT_FILENO, &out[..n])
+    streams.write(&out[..n])
 }
 
 // How something that is written ends.
@@ -51,7 +51,7 @@ fn written(wrote: bool, well: End) -> End
 }
 
 // All of one piece. Of a trace that can't be written the rest is left out, and the record is the same.
-fn pass(w: Wanted, t: Trail, piece: &[u8], out: &mut [u8]) -> Followed
+fn pass(streams: &Streams, w: Wanted, t: Trail, piece: &[u8], out: &mut [u8]) -> Followed
     ensures { PassedOn t piece.now result }
 {
     let mut c = t.cluster;
@@ -71,7 +71,7 @@ fn pass(w: Wanted, t: Trail, piece: &[u8], out: &mut [u8]) -> Followed
         let l = crate::put_line(w, n, c, line, out);
         c = l.cluster;
         n = lines::one_more(n);
-        wrote = write_on(wrote, out, l.wrote);
+        wrote = write_on(streams, wrote, out, l.wrote);
     }
     Followed {
         trail: Trail {
@@ -84,7 +84,14 @@ fn pass(w: Wanted, t: Trail, piece: &[u8], out: &mut [u8]) -> Followed
 }
 
 // One turn with what a read answered.
-fn turn(w: Wanted, t: Trail, buffer: &[u8], got: isize, out: &mut [u8]) -> Followed
+fn turn(
+    streams: &Streams,
+    w: Wanted,
+    t: Trail,
+    buffer: &[u8],
+    got: isize,
+    out: &mut [u8],
+) -> Followed
     ensures { TurnsBy trail_over t buffer.now got result.trail result.end }
 {
     if got == 0 {
@@ -100,19 +107,19 @@ fn turn(w: Wanted, t: Trail, buffer: &[u8], got: isize, out: &mut [u8]) -> Follo
         };
     }
     let n = io::count(got, buffer);
-    pass(w, t, &buffer[..n], out)
+    pass(streams, w, t, &buffer[..n], out)
 }
 
 // Standard input to its end. The count of turns only makes the loop end: nobody lives to see it run out.
-fn drain(w: Wanted, t: Trail, out: &mut [u8]) -> Followed
+fn drain(streams: &Streams, w: Wanted, t: Trail, out: &mut [u8]) -> Followed
     ensures { DrainsBy trail_over t result.trail result.end }
 {
     let mut d = t;
     let mut turns = u64::MAX;
     while turns > 0 {
         let mut buffer = [0; PIECE];
-        let got = libc::read(STDIN_FILENO, &mut buffer);
-        let f = turn(w, d, &buffer, got, out);
+        let got = streams.read(&mut buffer);
+        let f = turn(streams, w, d, &buffer, got, out);
         let e = f.trail;
         d = e;
         let end = f.end;
@@ -128,7 +135,7 @@ fn drain(w: Wanted, t: Trail, out: &mut [u8]) -> Followed
 }
 
 // The end of the input: a rest without a line feed counts if it isn't empty.
-fn close(w: Wanted, t: Trail, out: &mut [u8]) -> Traced
+fn close(streams: &Streams, w: Wanted, t: Trail, out: &mut [u8]) -> Traced
     ensures { Ends t result }
 {
     let c = t.cluster;
@@ -143,12 +150,12 @@ fn close(w: Wanted, t: Trail, out: &mut [u8]) -> Traced
     let d = l.cluster;
     Traced {
         cluster: d,
-        end: written(write_on(true, out, l.wrote), End::Input),
+        end: written(write_on(streams, true, out, l.wrote), End::Input),
     }
 }
 
 // All of standard input, traced from the record on.
-pub fn follow(w: Wanted, c: Cluster) -> Traced
+pub fn follow(streams: &Streams, w: Wanted, c: Cluster) -> Traced
     ensures { Follows c result }
 {
     let mut out = [0; crate::MOST_LINE];
@@ -157,7 +164,7 @@ pub fn follow(w: Wanted, c: Cluster) -> Traced
         kept: traces::nothing_kept(),
         number: 0,
     };
-    let f = drain(w, begun, &mut out);
+    let f = drain(streams, w, begun, &mut out);
     let t = f.trail;
     let d = t.cluster;
     let end = f.end;
@@ -167,5 +174,5 @@ pub fn follow(w: Wanted, c: Cluster) -> Traced
             end: end,
         };
     };
-    close(w, t, &mut out)
+    close(streams, w, t, &mut out)
 }

@@ -2,6 +2,7 @@
 use crate::{numbers, say, told};
 use cluster::{Cluster, Server};
 use server_log::Log;
+use streams::Streams;
 
 // Whether all slots are the same: both logs have them all as their common beginning when they are given the full length.
 fn same_slots(g: Log, h: Log) -> bool {
@@ -26,26 +27,26 @@ fn unchanged(s: Server, t: Server) -> bool {
 }
 
 // Writes server i where t isn't s. Whether all servers up to it are the same, where those before it are so far.
-fn same_server(i: usize, s: Server, t: Server, so_far: bool) -> bool {
+fn same_server(streams: &Streams, i: usize, s: Server, t: Server, so_far: bool) -> bool {
     if unchanged(s, t) {
         return so_far;
     }
     let g = t.log;
-    say::row(b"server", say::numbers_of(i, t));
-    say::entries(i, g);
-    told::show(i, t);
+    say::row(streams, b"server", say::numbers_of(i, t));
+    say::entries(streams, i, g);
+    told::show(streams, i, t);
     false
 }
 
 // Writes the new count and followers where they are new, and each server that isn't as it was, or `same`.
-pub(crate) fn changes(c: Cluster, d: Cluster) {
-    let mut same = say::same_size(c, d);
+pub(crate) fn changes(streams: &Streams, c: Cluster, d: Cluster) {
+    let mut same = say::same_size(streams, c, d);
     let mut i: usize = 0;
     while i < cluster::MOST_SERVERS {
         let s = c.servers[i];
         let t = d.servers[i];
-        same = same_server(i, s, t, same);
+        same = same_server(streams, i, s, t, same);
         i += 1;
     }
-    say::verdict(same);
+    say::verdict(streams, same);
 }

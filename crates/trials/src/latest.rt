@@ -3,6 +3,7 @@ use crate::numbers::{PLACES, byte, word};
 use crate::say;
 use cluster::Server;
 use server_log::rows::{KEYS, Latest, Rows};
+use streams::Streams;
 
 // How many numbers there are in a line `latest`: server, 0 for the row of the whole log or 1 for that of the committed beginning, key, value.
 pub(crate) const LATEST: usize = 4;
@@ -20,10 +21,10 @@ fn with_value(v: Latest, key: usize, value: u16) -> Latest {
 }
 
 // The server with the value of a line `latest`.
-pub(crate) fn with_latest(s: Server, line: &[u8], n: [usize; PLACES]) -> Server {
+pub(crate) fn with_latest(streams: &Streams, s: Server, line: &[u8], n: [usize; PLACES]) -> Server {
     let key = n[3];
     if KEYS <= key {
-        say::unknown(line);
+        say::unknown(streams, line);
         return s;
     }
     let r = s.rows;

@@ -6,6 +6,7 @@ use crate::{latest, numbers, say, told};
 use clock::Time;
 use cluster::{Cluster, Head, Server};
 use server_log::Entry;
+use streams::Streams;
 
 // How many numbers there are in a line `fresh`, `server` and `entry`; `latest` and `told` have the other lines.
 const FRESH: usize = 2;
@@ -81,10 +82,10 @@ fn slot_of(at: usize) -> usize {
 }
 
 // The server with the entry of a line `entry` in its slot.
-fn with_entry(s: Server, line: &[u8], n: [usize; PLACES]) -> Server {
+fn with_entry(streams: &Streams, s: Server, line: &[u8], n: [usize; PLACES]) -> Server {
     let slot = slot_of(n[2]);
     if server_log::LOG_LIMIT <= slot {
-        say::unknown(line);
+        say::unknown(streams, line);
         return s;
     }
     let mut g = s.log;
@@ -93,14 +94,14 @@ fn with_entry(s: Server, line: &[u8], n: [usize; PLACES]) -> Server {
 }
 
 // The server after a line that changes it; each kind of line has a count of numbers of its own, which tells it from the others.
-fn with_line(s: Server, line: &[u8], n: [usize; PLACES]) -> Server {
+fn with_line(streams: &Streams, s: Server, line: &[u8], n: [usize; PLACES]) -> Server {
     match n[0] {
         SERVER => with_numbers(s, n),
-        LATEST => latest::with_latest(s, line, n),
+        LATEST => latest::with_latest(streams, s, line, n),
         MAIL => told::with_mail(s, n),
-        NOTE => told::with_note(s, line, n),
-        REPORT => told::with_report(s, line, n),
-        _ => with_entry(s, line, n),
+        NOTE => told::with_note(streams, s, line, n),
+        REPORT => told::with_report(streams, s, line, n),
+        _ => with_entry(streams, s, line, n),
     }
 }
 
@@ -117,16 +118,16 @@ fn with_rows(counted: bool, s: Server, n: [usize; PLACES]) -> Server {
 }
 
 // The record after a line of these numbers; a line that is none, or reaches past the record, is said.
-pub(crate) fn changed(c: Cluster, line: &[u8], n: [usize; PLACES]) -> Cluster {
+pub(crate) fn changed(streams: &Streams, c: Cluster, line: &[u8], n: [usize; PLACES]) -> Cluster {
     let i = n[1];
     if n[0] == FRESH {
         return cluster::fresh_cluster(i, byte(n[2]));
     }
     if cluster::MOST_SERVERS <= i {
-        say::unknown(line);
+        say::unknown(streams, line);
         return c;
     }
     let s = c.servers[i];
-    let t = with_line(s, line, n);
+    let t = with_line(streams, s, line, n);
     cluster::with_server(c, i, with_rows(i < c.count, t, n))
 }

@@ -2,56 +2,57 @@
 use crate::numbers::PLACES;
 use crate::record::{ENTRY, SERVER};
 use cluster::{Cluster, Server};
-use libc::STDOUT_FILENO;
 use server_log::{Entry, Log};
 use steps::Answer;
+use streams::Streams;
 
-pub(crate) fn line(words: &[u8]) {
-    io::write_all(STDOUT_FILENO, words);
-    io::write_all(STDOUT_FILENO, b"\n");
+pub(crate) fn line(streams: &Streams, words: &[u8]) {
+    streams.write(words);
+    streams.write(b"\n");
 }
 
 // A line that can't be taken.
-pub(crate) fn unknown(words: &[u8]) {
-    io::write_all(STDOUT_FILENO, b"? ");
-    line(words);
+pub(crate) fn unknown(streams: &Streams, words: &[u8]) {
+    streams.write(b"? ");
+    line(streams, words);
 }
 
 // A word and its numbers.
-pub(crate) fn row(word: &[u8], n: [usize; PLACES]) {
-    io::write_all(STDOUT_FILENO, word);
+pub(crate) fn row(streams: &Streams, word: &[u8], n: [usize; PLACES]) {
+    streams.write(word);
     let mut k: usize = 1;
     while k < PLACES {
         if n[0] < k {
             break;
         }
-        io::write_all(STDOUT_FILENO, b" ");
-        io::print_decimal(STDOUT_FILENO, n[k] as u64);
+        streams.write(b" ");
+        streams.write_decimal(n[k] as u64);
         k += 1;
     }
-    line(b"");
+    line(streams, b"");
 }
 
-pub(crate) fn answer(a: Answer) {
+pub(crate) fn answer(streams: &Streams, a: Answer) {
     let chars = answers::write_answer(a);
-    line(&chars);
+    line(streams, &chars);
 }
 
 // The new server count and the new followers where either is new; whether neither is.
-pub(crate) fn same_size(c: Cluster, d: Cluster) -> bool {
+pub(crate) fn same_size(streams: &Streams, c: Cluster, d: Cluster) -> bool {
     if c.count == d.count && c.followers == d.followers {
         return true;
     }
     row(
+        streams,
         b"count",
         [2, d.count, d.followers as usize, 0, 0, 0, 0, 0, 0],
     );
     false
 }
 
-pub(crate) fn verdict(same: bool) {
+pub(crate) fn verdict(streams: &Streams, same: bool) {
     if same {
-        line(b"same");
+        line(streams, b"same");
     }
 }
 
@@ -70,8 +71,9 @@ pub(crate) fn numbers_of(i: usize, s: Server) -> [usize; PLACES] {
     ]
 }
 
-fn entry(i: usize, at: usize, e: Entry) {
+fn entry(streams: &Streams, i: usize, at: usize, e: Entry) {
     row(
+        streams,
         b"entry",
         [
             ENTRY,
@@ -88,21 +90,21 @@ fn entry(i: usize, at: usize, e: Entry) {
 }
 
 // An entry of server i, where it is within the length or not zero.
-fn slot(i: usize, at: usize, len: usize, e: Entry) {
+fn slot(streams: &Streams, i: usize, at: usize, len: usize, e: Entry) {
     if len < at {
         if server_log::same_entry(e, server_log::zero_entry()) {
             return;
         }
     }
-    entry(i, at, e);
+    entry(streams, i, at, e);
 }
 
 // The entries of server i, and what slots past the length have in them.
-pub(crate) fn entries(i: usize, g: Log) {
+pub(crate) fn entries(streams: &Streams, i: usize, g: Log) {
     let mut k: usize = 0;
     while k < server_log::LOG_LIMIT {
         let e = g.entries[k];
         k += 1;
-        slot(i, k, g.len, e);
+        slot(streams, i, k, g.len, e);
     }
 }

@@ -4,6 +4,7 @@ use crate::numbers::{PLACES, byte, word};
 use crate::{latest, numbers, say};
 use cluster::Server;
 use mail::{Mail, Note, Report};
+use streams::Streams;
 
 // How many numbers there are in a line `mail` (server, reports, source), `note` (server, of whom, term, last term, length) and `report`
 // (server, slot from 0, who, term, last term, length).
@@ -32,10 +33,10 @@ pub(crate) fn with_mail(s: Server, n: [usize; PLACES]) -> Server {
 }
 
 // The server with the note of a line `note`.
-pub(crate) fn with_note(s: Server, line: &[u8], n: [usize; PLACES]) -> Server {
+pub(crate) fn with_note(streams: &Streams, s: Server, line: &[u8], n: [usize; PLACES]) -> Server {
     let j = n[2];
     if mail::NOTE_SLOTS <= j {
-        say::unknown(line);
+        say::unknown(streams, line);
         return s;
     }
     let mut m = s.mail;
@@ -48,10 +49,10 @@ pub(crate) fn with_note(s: Server, line: &[u8], n: [usize; PLACES]) -> Server {
 }
 
 // The server with the report of a line `report` in its slot.
-pub(crate) fn with_report(s: Server, line: &[u8], n: [usize; PLACES]) -> Server {
+pub(crate) fn with_report(streams: &Streams, s: Server, line: &[u8], n: [usize; PLACES]) -> Server {
     let k = n[2];
     if mail::QUEUE_LIMIT <= k {
-        say::unknown(line);
+        say::unknown(streams, line);
         return s;
     }
     let m = s.mail;
@@ -133,23 +134,23 @@ pub(crate) fn same(s: Server, t: Server) -> bool {
 }
 
 // Writes a line where it isn't what all zero would be.
-fn show_row(n: [usize; PLACES], zero: [usize; PLACES]) {
+fn show_row(streams: &Streams, n: [usize; PLACES], zero: [usize; PLACES]) {
     if numbers::same(n, zero) {
         return;
     }
     match n[0] {
-        LATEST => say::row(b"latest", n),
-        MAIL => say::row(b"mail", n),
-        NOTE => say::row(b"note", n),
-        _ => say::row(b"report", n),
+        LATEST => say::row(streams, b"latest", n),
+        MAIL => say::row(streams, b"mail", n),
+        NOTE => say::row(streams, b"note", n),
+        _ => say::row(streams, b"report", n),
     }
 }
 
 // What server i keeps beside its log: each line that isn't all zero, used or not and past the length or not.
-pub(crate) fn show(i: usize, s: Server) {
+pub(crate) fn show(streams: &Streams, i: usize, s: Server) {
     let mut k: usize = 0;
     while k < LINES {
-        show_row(row_of(i, s, k), row_of(i, cluster::ZERO_SERVER, k));
+        show_row(streams, row_of(i, s, k), row_of(i, cluster::ZERO_SERVER, k));
         k += 1;
     }
 }

@@ -20,7 +20,10 @@ pub loop-i-preserved : goal.loop-i-preserved
 loop-i-preserved c =
     let k = holds_own_by c.args.by c.args.c in
     let r : Next k c.if-not-holds_own.a c.loop-i.i =
-    elim c.if-not-holds_own.branch [ then-not-holds_own w ↦ next_moves k c.loop-i.a c.if-not-holds_own.a c.loop-i.i c.loop-i.invariant.0 c.loop-i.invariant.3 (said_no _ _ c.holds_own.ensures w.if-not-holds_own.true) w.a-is | else-not-holds_own w ↦ next_stays k c.loop-i.a c.if-not-holds_own.a c.loop-i.i c.loop-i.invariant.0 c.loop-i.invariant.1 c.loop-i.invariant.3 (said_yes _ _ c.holds_own.ensures w.if-not-holds_own.false) w.a-is ] in
+    elim c.if-not-holds_own.branch [
+      | then-not-holds_own w ↦ next_moves k c.loop-i.a c.if-not-holds_own.a c.loop-i.i c.loop-i.invariant.0 c.loop-i.invariant.3 (said_no _ _ c.holds_own.ensures w.if-not-holds_own.true) w.a-is
+      | else-not-holds_own w ↦ next_stays k c.loop-i.a c.if-not-holds_own.a c.loop-i.i c.loop-i.invariant.0 c.loop-i.invariant.1 c.loop-i.invariant.3 (said_yes _ _ c.holds_own.ensures w.if-not-holds_own.false) w.a-is
+    ] in
     (omega arith, r.0, omega arith, r.1)
 
 pub returns : goal.returns
