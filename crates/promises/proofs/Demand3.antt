@@ -19,7 +19,7 @@ use Rattle.cluster.specs.declared.Server.{Server}
 use Rattle.cluster.specs.declared.Cluster.{Cluster}
 use Rattle.cluster.specs.Servers.{server_count, server_at}
 use Rattle.reads.specs.MajorityRead.{commit_time, covered}
-use Rattle.wholes.specs.Starts.{Opening, fresh_of}
+use Rattle.wholes.specs.Starts.{Opening}
 use Rattle.safety.specs.Cluster.{Holds}
 use Rattle.safety.specs.Steps.{Walk}
 use Rattle.safety.specs.Demand3.{LastFor, Demand3}

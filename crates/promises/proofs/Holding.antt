@@ -3,24 +3,21 @@ use mathlib.Core.Path.{◌≡◌, refl, sym, ap, ◌∙◌, subst}
 use mathlib.Core.Logic.{◌≢◌, ⊎_elim}
 use mathlib.Core.Bool.{Bool, true, false, cond}
 use mathlib.Core.List.{List, [], ◌∷◌, ◌++◌}
-use Prim.Native.Nat.{ℕ, suc, ◌<◌, ◌≤◌}
+use Prim.Native.Nat.{ℕ, ◌<◌, ◌≤◌}
 use native.Mathlib.Omega.{arith}
 use lib.Dec.{eqb, ltb}
-use lib.ListN.{length, length-append}
+use lib.ListN.{length}
 use borrow.Author.Tests.{eq-eqb, ltb-true, eqb-true, eqb-false}
 use Rattle.base.specs.Lists.{joined_at}
 use Rattle.server_log.specs.declared.Entry.{Entry}
-use Rattle.server_log.specs.declared.Log.{Log}
 use Rattle.server_log.specs.Entries.{entry_at}
 use Rattle.server_log.specs.Logs.{live, length_of, joined, appended, has_room}
 use Rattle.server_log.proofs.Tidy.{Tidy, live_appended, live_joined}
 use Rattle.server_log.proofs.Positions.{last_more}
 use Rattle.server_log.proofs.Common.{common_le}
-use Rattle.clock.specs.declared.Time.{Time}
 use Rattle.cluster.specs.declared.Cluster.{Cluster}
 use Rattle.cluster.specs.declared.Server.{Server}
 use Rattle.cluster.specs.Servers.{server_at, server_count, with_server}
-use Rattle.cluster.specs.WellFormed.{well_formed}
 use Rattle.cluster.specs.Ranges.{Fits}
 use Rattle.cluster.proofs.Changed.{replaced_here, replaced_others}
 use Rattle.cluster.proofs.Good.{Good, good}
@@ -32,13 +29,13 @@ use Rattle.steps.specs.declared.Stepped.{Stepped}
 use Rattle.steps.specs.declared.Outcome.{Outcome}
 use Rattle.steps.specs.Ranges.{FitsStep}
 use Rattle.steps.specs.Answers.{is_refused}
-use Rattle.rules.specs.Rules.{row_of, done_of, rules_of, put_back, step_of, is_start}
+use Rattle.rules.specs.Rules.{row_of, put_back, step_of, is_start}
 use Rattle.rules.proofs.Outcomes.{StepDone, StepRefused, step_cases, done_not_refused}
 use Rattle.rules.proofs.Others.{put_either, delivered_queue, elect_changes, agree_changes}
 use Rattle.pairs.specs.Pulls.{took_of, pull_done}
 use Rattle.pairs.specs.RollsBack.{common, roll_done}
 use Rattle.pairs.specs.Hears.{heard_of, hears_of}
-use Rattle.singles.specs.Appends.{new_entry, stamped_of, stamp_done}
+use Rattle.singles.specs.Appends.{stamped_of}
 use Rattle.singles.specs.StepsDown.{down_done}
 use Rattle.singles.specs.WallClock.{clock_done}
 use Rattle.singles.specs.Restarts.{restarts_of}

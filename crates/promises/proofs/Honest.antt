@@ -18,7 +18,7 @@ use Rattle.server_log.specs.declared.Entry.{Entry}
 use Rattle.server_log.proofs.Common.{Beginning, beginning, beginning_trans}
 use Rattle.server_log.proofs.Orderly.{orderly}
 use Rattle.cluster.specs.declared.Cluster.{Cluster}
-use Rattle.cluster.specs.Servers.{server_at, fresh_cluster}
+use Rattle.cluster.specs.Servers.{server_at}
 use Rattle.steps.specs.declared.Step.TheVariants.{Writes}
 use Rattle.steps.specs.declared.Refusal.TheVariants.{IllFormed, OutOfRange}
 use Rattle.steps.proofs.Decided.{decided_clear}

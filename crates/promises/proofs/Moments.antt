@@ -16,7 +16,7 @@ use Rattle.server_log.proofs.Common.{first_beginning}
 use Rattle.cluster.specs.declared.Cluster.{Cluster}
 use Rattle.cluster.specs.Servers.{server_count, server_at}
 use Rattle.reads.specs.MajorityRead.{covered}
-use Rattle.wholes.specs.Starts.{Opening, fresh_of}
+use Rattle.wholes.specs.Starts.{Opening}
 use Rattle.safety.proofs.Joins.{commit_within, matching_later}
 use Rattle.safety.proofs.Demand3.{demand3}
 use Rattle.safety.proofs.Views.{fresh_seen, fits_time, same_entry_lem, first_same}

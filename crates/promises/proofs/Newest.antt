@@ -22,7 +22,7 @@ use Rattle.server_log.proofs.Positions as P
 use Rattle.cluster.specs.declared.Cluster.{Cluster}
 use Rattle.cluster.specs.Servers.{server_at}
 use Rattle.steps.specs.declared.Step.TheVariants.{WritesNothing}
-use Rattle.wholes.specs.Starts.{Opening, fresh_of}
+use Rattle.wholes.specs.Starts.{Opening}
 use Rattle.safety.specs.Steps.{Walk}
 use Rattle.safety.specs.NewestSeen.{NewestSeen}
 use Rattle.safety.specs.View.{view, seen_cluster}

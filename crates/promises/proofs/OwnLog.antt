@@ -26,7 +26,7 @@ use Rattle.reads.specs.MajorityRead.{covered}
 use Rattle.rules.proofs.Logs.{log_raised}
 use Rattle.histories.specs.Committed.{committed_limit, entries_on, entries_of, same_lengths, could_hold}
 use Rattle.histories.specs.Longest.{columns_of}
-use Rattle.wholes.specs.Starts.{Opening, fresh_of}
+use Rattle.wholes.specs.Starts.{Opening}
 use Rattle.safety.specs.Time.{stamp}
 use Rattle.safety.proofs.Joins.{times_ordered}
 use Rattle.safety.proofs.Views.{fresh_seen}

@@ -29,7 +29,7 @@ use Rattle.cluster.specs.Servers.{server_count, server_at}
 use Rattle.steps.specs.declared.Step.TheVariants.{MajorityRead}
 use Rattle.steps.specs.declared.Answer.TheVariants as A
 use Rattle.reads.specs.MajorityRead.{commit_time, covered}
-use Rattle.wholes.specs.Starts.{Opening, fresh_of}
+use Rattle.wholes.specs.Starts.{Opening}
 use Rattle.rules.specs.Rules.{step_of}
 use Rattle.safety.proofs.Stepped.{Now}
 use Rattle.histories.specs.declared.PhoneRecord.{PhoneRecord}

@@ -2,14 +2,12 @@
 -- Assumes nothing.
 use mathlib.Core.Path.{◌≡◌, refl, sym, ap, ◌∙◌, subst}
 use mathlib.Core.List.{List, [], ◌∷◌, ◌++◌}
-use Prim.Native.Nat.{ℕ, ◌≤◌, ◌<◌}
-use native.Mathlib.Omega.{arith}
 use Rattle.cluster.specs.declared.Cluster.{Cluster}
 use Rattle.steps.specs.declared.Outcome.{Outcome}
 use Rattle.saved.specs.Saved.{save_of}
 use Rattle.loads.specs.Loads.{loaded, load_of}
 use Rattle.loads.proofs.Loads.{gives_back}
-use Rattle.wholes.specs.Starts.{Opening, fresh_of}
+use Rattle.wholes.specs.Starts.{Opening}
 use Rattle.safety.specs.Steps.{Walk, stop, go}
 use Rattle.safety.specs.View.{seen_cluster}
 use Rattle.safety.proofs.Joins.{walk_on}

@@ -29,7 +29,7 @@ use Rattle.steps.specs.declared.Outcome.{Outcome}
 use Rattle.singles.specs.Appends.{new_entry, stamped_of}
 use Rattle.singles.specs.Writes.{write_from, write_done}
 use Rattle.reads.specs.MajorityRead.{covered}
-use Rattle.wholes.specs.Starts.{Opening, fresh_of}
+use Rattle.wholes.specs.Starts.{Opening}
 use Rattle.rules.specs.Rules.{delivered, row_of, step_of}
 use Rattle.rules.proofs.Appends.{stamp_from, live_more}
 use Rattle.rules.proofs.Outcomes.{DoneWith, answered_done}

@@ -19,7 +19,6 @@ use Rattle.server_log.proofs.Equal.{same_entry_refl}
 use Rattle.cluster.specs.declared.Server.{Server}
 use Rattle.cluster.specs.declared.Cluster.{Cluster}
 use Rattle.cluster.specs.Servers.{server_at}
-use Rattle.steps.specs.declared.Answer.TheVariants as A
 use Rattle.steps.specs.declared.Step.TheVariants.{Pulls, RollsBack}
 use Rattle.steps.specs.Reasons.{Clear, Broken, later, here as broken-here}
 use Rattle.steps.specs.declared.Refusal.TheVariants.{BelowCommitPoint}

@@ -23,7 +23,6 @@ use Rattle.server_log.proofs.Equal.{same_entry_refl}
 use Rattle.server_log.proofs.Positions.{same_first}
 use Rattle.cluster.specs.declared.Cluster.{Cluster}
 use Rattle.cluster.specs.Servers.{server_count, server_at}
-use Rattle.cluster.specs.WellFormed.{well_formed}
 use Rattle.cluster.proofs.Good.{size_good, good, well_formed_lem}
 use Rattle.steps.specs.declared.Answer.{Answer}
 use Rattle.steps.specs.declared.Answer.TheVariants as A
@@ -36,7 +35,7 @@ use Rattle.steps.specs.Ranges.{FitsStep}
 use Rattle.wholes.specs.Starts.{Opening}
 use Rattle.rules.specs.Rules.{is_start, step_of}
 use Rattle.frames.specs.Steps.{write_step}
-use Rattle.replay.specs.Texts.{answer_to, record_after}
+use Rattle.replay.specs.Texts.{record_after}
 use Rattle.safety.specs.Cluster.{Agree}
 use Rattle.safety.specs.Steps.{stop}
 use Rattle.safety.specs.View.{seen_entry}
@@ -48,11 +47,11 @@ use Rattle.promises.proofs.Texts.{line_is}
 use Rattle.promises.proofs.Turns.{led, reached}
 use Rattle.plans.specs.Moves.{Move, steps_by, turns, once, one_by_one, NoneRefused, first_refused, other}
 use Rattle.plans.specs.Plan.{others, chosen, newest_server, copies, hearing, plan_lines, plan_for}
-use Rattle.plans.specs.Making.{no_frames, with_steps, frames_by, planned_of}
+use Rattle.plans.specs.Making.{no_frames, frames_by, planned_of}
 use Rattle.plans.proofs.Made.{length_steps, lines_short}
 use Rattle.plans.proofs.Lines.{planned_is}
 use Rattle.recovery.specs.Promise.{held_by, Going, Asked, NoLineRefused, PlanGiven, Recovers, RecoveryPromised, OnlyNine}
-use Rattle.recovery.proofs.Getting.{run_by, GetsOr9, other_every, other_below}
+use Rattle.recovery.proofs.Getting.{run_by, other_every, other_below}
 use Rattle.recovery.proofs.Sets.{voting_small}
 use Rattle.recovery.proofs.First.{chosen_below, newest_below}
 use Rattle.recovery.proofs.Standing.{Stands, counts_n}
