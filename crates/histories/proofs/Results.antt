@@ -1,5 +1,5 @@
 -- Each public function's contract allows one result, whatever the arguments: all that it says of a result is that it is this value. That of
--- `check_lem` is read off the contract itself, since one over a slice of structs has no other reading. Assumes nothing.
+-- `check` is read off the contract itself, since one over a slice of structs has no other reading. Assumes nothing.
 use mathlib.Core.Path.{◌≡◌, refl}
 use mathlib.Core.List.{List}
 use Prim.Native.Nat.{ℕ}
