@@ -1,18 +1,13 @@
 -- A whole input that is traced: the pieces that were read are a text, whose trace was shown and whose record is left. Assumes nothing.
 use mathlib.Core.Path.{◌≡◌, refl, sym, ap, ◌∙◌, subst}
-use mathlib.Core.Bool.{Bool, true, false, cond}
-use mathlib.Core.List.{List, [], ◌∷◌, ◌++◌}
-use Prim.Native.Nat.{ℕ}
-use types.Run.{OneOf}
-use denote.Enum.Declared.{tag_of}
+use mathlib.Core.Bool.{Bool, false, cond}
+use mathlib.Core.List.{◌++◌}
 use Rattle.base.proofs.Bools.{not_both}
 use Rattle.cluster.specs.declared.Cluster.{Cluster}
 use Rattle.lines.specs.declared.End.{End}
-use Rattle.lines.specs.declared.End.TheVariants.{Input}
+use Rattle.lines.specs.declared.End.TheVariants.{More, Input, CannotRead, CannotWrite}
 use Rattle.lines.specs.Texts.{together}
 use Rattle.lines.specs.Turns.{is_input, DrainsBy}
-use Rattle.lines.specs.contracts.End.{the_type}
-use Rattle.lines.proofs.Turns.{not_at_end}
 use Rattle.replay.specs.Texts.{leaves}
 use Rattle.traces.specs.declared.CutLine.{CutLine}
 use Rattle.traces.specs.Writing.{nothing_kept}
@@ -39,6 +34,13 @@ module _ (c : Cluster) (r : Followed) (d : DrainsBy trail_over (begun_trail c) r
 pub begun_is : {c : Cluster} {k : CutLine} → k ≡ nothing_kept → ◌≡◌ {A = Trail} (record { cluster = c; kept = k; number = 0 }) (begun_trail c)
 begun_is e = rw e
 
+-- any end but that of the input
+pub not_input : (e : End) → (e ≡ Input → ⊥) → is_input e ≡ false
+not_input More h = refl
+not_input Input h = absurd (h refl)
+not_input CannotRead h = refl
+not_input CannotWrite h = refl
+
 module _ (c : Cluster) (s : Trail) (d : Followed) (r : Traced) (b : s ≡ begun_trail c) (g : DrainsBy trail_over s d.trail d.end) where
   drained : DrainsBy trail_over (begun_trail c) d.trail d.end
   drained = subst (λ (t : Trail). DrainsBy trail_over t d.trail d.end) b g
@@ -53,9 +55,9 @@ module _ (c : Cluster) (s : Trail) (d : Followed) (r : Traced) (b : s ≡ begun_
         record_left = λ _. e.record_left ∙ drained_record c d drained;
       }
 
-  pub follows_not : OneOf (0 ∷ 2 ∷ 3 ∷ []) (tag_of the_type d.end) → r.end ≡ d.end → Follows c r
+  pub follows_not : (d.end ≡ Input → ⊥) → r.end ≡ d.end → Follows c r
   follows_not o e =
-      let no = not_at_end d.end o in
+      let no = not_input d.end o in
       record {
         turns = d;
         drained = drained;

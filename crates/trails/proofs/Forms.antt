@@ -13,7 +13,7 @@ use Rattle.hex_text.specs.Lines.{hex_of, over}
 use Rattle.cluster.specs.declared.Cluster.{Cluster}
 use Rattle.cluster.specs.Servers.{server_count}
 use Rattle.cluster.specs.WellFormed.{well_formed}
-use Rattle.lines.specs.Texts.{placed, line_feed}
+use Rattle.lines.specs.Texts.{line_feed}
 use Rattle.steps.specs.declared.Refusal.TheVariants.{IllFormed}
 use Rattle.saved.specs.declared.Saved.{Saved}
 use Rattle.saved.specs.declared.Saved.TheVariants.{Text, NoRoom, Refused}

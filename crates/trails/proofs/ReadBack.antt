@@ -27,7 +27,7 @@ use Rattle.replay.specs.Texts.{answer_to, line_of, answers_to, answers}
 use Rattle.traces.specs.Shown.{backslash, char_x, plus, is_plain, shown_byte, shown_bytes, places_of, decimal_of, shown_more, shown_line, most_shown}
 use Rattle.traces.specs.Pairs.{blank, pair_line}
 use Rattle.trails.specs.declared.Wanted.{Wanted}
-use Rattle.trails.specs.Traces.{first_frame_of, form_by, is_wanted, opening_of, change_of, line_traced, trace_from, trace_of}
+use Rattle.trails.specs.Traces.{first_frame_of, form_by, is_wanted, opening_of, change_of, trace_from, trace_of}
 use Rattle.trails.specs.Reading.{has_blank, after_blank, answers_in}
 
 -- ---- characters that are seen
