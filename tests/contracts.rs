@@ -119,7 +119,7 @@ fn has_walked_law(results: &str, path: &str) -> bool {
         let law = results.split("pub ").find(|law| law.starts_with(start)).unwrap_or_default();
         law.split("\n\n").next().unwrap_or_default()
     };
-    let says = law(&format!("{name}_says_lem : "));
+    let says = law(&format!("{name}_says : "));
     let facts = says.lines().find_map(|line| line.trim_start().strip_prefix("≡ ")).unwrap_or_default();
     let of_fact = |part: &str| part.split([' ', ')']).next().unwrap_or_default().to_string();
     let allowed: Vec<String> = facts.split("fact 𝓤 (").skip(1).map(of_fact).collect();

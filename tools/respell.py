@@ -102,6 +102,14 @@ USE = re.compile(r"(?m)^(\s*(?:(?:pub|ghost|unfoldable)\s+)*use\s+)(Rattle\.[^\s
 USE_AS = re.compile(r"(?m)^\s*(?:(?:pub|ghost|unfoldable)\s+)*use\s+(Rattle\.[^\s{};]+?)(?:\s+as\s+([^\s;]+))?;?\s*$")
 
 
+def functions_of(crate):
+    found = set()
+    for p in files(".rt"):
+        if os.path.relpath(p, os.path.join(ROOT, "crates")).split(os.sep)[0] == crate:
+            found |= set(re.findall(r"fn (\w+)", read(p)))
+    return found
+
+
 def own_fields():
     found = set()
     for p in files(".antt"):
@@ -136,7 +144,8 @@ def main(argv):
     # The law on what a function's contract allows is a lemma of the function's name.
     for m in turned:
         if m.endswith(".proofs.Results") and m != "Rattle.base.proofs.Results":
-            turned[m] = {n: n.replace("-", "_") + "_lem" for n in own[m]}
+            functions = functions_of(m.split(".")[1])
+            turned[m] = {n: new_name(n) + ("_lem" if new_name(n) in functions else "") for n in own[m]}
     if "--table" in argv:
         for m in sorted(turned):
             for n, t in sorted(turned[m].items()):

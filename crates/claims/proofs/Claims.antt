@@ -363,19 +363,19 @@ one_frame_an_answer = tellings.written_read_telling
 -- and so is each byte
 pub take_is : {M : Type 1} {𝓤 : Ura M} (𝓛 : Logic 𝓤) (at_mem : Memory → SProp 𝓤) (run : Routine → Fun 𝓤) (κ : Lft) (r o : Bor Reader) (b : ℕ)
     → (take_contract.clauses 𝓛 at_mem run (κ, tt) (r, (b, tt))).ensures tt tt (o, (b, tt)) ≡ fact 𝓤 (o.now ≡ reader_after r.now b)
-take_is 𝓛 at_mem run κ r o b = lines_results.take_says_lem r b 𝓛 at_mem run κ o
+take_is 𝓛 at_mem run κ r o b = lines_results.take_says r b 𝓛 at_mem run κ o
 
 pub feed_is : {M : Type 1} {𝓤 : Ura M} (𝓛 : Logic 𝓤) (at_mem : Memory → SProp 𝓤) (run : Routine → Fun 𝓤) (κs : Lfts 3) (c : Cluster) (r q : Bor Reader)
     (text out o : Bor (List ℕ)) (f : Fed) → let g = fed_of (record { cluster = c; reader = r.now }) text.now (length out.now) in
     (feed_contract.clauses 𝓛 at_mem run κs (c, (r, (text, (out, tt))))).ensures tt f (c, (q, (text, (o, tt))))
     ≡ sep 𝓤 (fact 𝓤 (f ≡ g)) (sep 𝓤 (fact 𝓤 (q.now ≡ g.session.reader)) (fact 𝓤 (o.now ≡ fed_out (record { cluster = c; reader = r.now }) text.now out.now)))
-feed_is 𝓛 at_mem run κs c r q text out o f = replay_results.feed_says_lem c r out text 𝓛 at_mem run κs f q o
+feed_is 𝓛 at_mem run κs c r q text out o f = replay_results.feed_says c r out text 𝓛 at_mem run κs f q o
 
 pub finish_is : {M : Type 1} {𝓤 : Ura M} (𝓛 : Logic 𝓤) (at_mem : Memory → SProp 𝓤) (run : Routine → Fun 𝓤) (κs : Lfts 2) (c : Cluster) (r q : Bor Reader)
     (out o : Bor (List ℕ)) (f : Finished) → let g = finish_of (record { cluster = c; reader = r.now }) (length out.now) in
     (finish_contract.clauses 𝓛 at_mem run κs (c, (r, (out, tt)))).ensures tt f (c, (q, (o, tt)))
     ≡ sep 𝓤 (fact 𝓤 (f ≡ g)) (sep 𝓤 (fact 𝓤 (q.now ≡ g.session.reader)) (fact 𝓤 (o.now ≡ finish_out (record { cluster = c; reader = r.now }) out.now)))
-finish_is 𝓛 at_mem run κs c r q out o f = replay_results.finish_says_lem c r out 𝓛 at_mem run κs f q o
+finish_is 𝓛 at_mem run κs c r q out o f = replay_results.finish_says c r out 𝓛 at_mem run κs f q o
 
 pub pour_is : (κs : Lfts 2) (s : Session) (text out o : Bor (List ℕ)) (r : Fed) → pour_contract.Learnt κs (s, (text, (out, tt))) r (s, (text, (o, tt)))
     → (r ≡ fed_of s text.now (length out.now)) × (o.now ≡ fed_out s text.now out.now)
@@ -626,7 +626,7 @@ pub check_is : {M : Type 1} {𝓤 : Ura M} (𝓛 : Logic 𝓤) (at_mem : Memory 
     (records : Bor (List PhoneRecord)) (terms keys values ps ls : Bor (List ℕ)) (r : Checked)
     → (check_contract.clauses 𝓛 at_mem run (κ, tt) (records, (terms, (keys, (values, (ps, (ls, tt))))))).ensures tt r (records, (terms, (keys, (values, (ps, (ls, tt))))))
     ≡ fact 𝓤 (r ≡ check_of records.now (lent terms.now keys.now values.now ps.now ls.now))
-check_is 𝓛 at_mem run κ records terms keys values ps ls r = checked.check_says_lem records terms keys values ps ls 𝓛 at_mem run κ r
+check_is 𝓛 at_mem run κ records terms keys values ps ls r = checked.check_says records terms keys values ps ls 𝓛 at_mem run κ r
 
 pub check_first_is : (κs : Lfts 1) (records : List PhoneRecord) (n : ℕ) (terms keys values ps ls : Bor (List ℕ)) (r : Checked)
     → check_first_contract.Learnt κs (records, (n, (terms, (keys, (values, (ps, (ls, tt))))))) r (records, (n, (terms, (keys, (values, (ps, (ls, tt)))))))

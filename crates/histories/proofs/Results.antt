@@ -1,5 +1,5 @@
 -- Each public function's contract allows one result, whatever the arguments: all that it says of a result is that it is this value. That of
--- `check_lem` is read off the contract itself, since one over a slice of structs has no other reading. Assumes nothing.
+-- `check` is read off the contract itself, since one over a slice of structs has no other reading. Assumes nothing.
 use mathlib.Core.Path.{◌≡◌, refl}
 use mathlib.Core.List.{List}
 use Prim.Native.Nat.{ℕ}
@@ -43,13 +43,13 @@ why_lem κs r terms keys values ps ls = one_result (why_of (entries_of (lent ter
 
 module _ (records : Bor (List PhoneRecord)) (terms keys values ps ls : Bor (List ℕ)) where
   -- what is allowed of a result
-  abbrev pub Allowed_lem : Checked → Type 0
-  Allowed_lem r = r ≡ check_of records.now (lent terms.now keys.now values.now ps.now ls.now)
+  abbrev pub Allowed : Checked → Type 0
+  Allowed r = r ≡ check_of records.now (lent terms.now keys.now values.now ps.now ls.now)
 
-  pub check_says_lem : {M : Type 1} {𝓤 : Ura M} (𝓛 : Logic 𝓤) (at_mem : Memory → SProp 𝓤) (run : Routine → Fun 𝓤) (κ : Lft) (r : Checked)
+  pub check_says : {M : Type 1} {𝓤 : Ura M} (𝓛 : Logic 𝓤) (at_mem : Memory → SProp 𝓤) (run : Routine → Fun 𝓤) (κ : Lft) (r : Checked)
       → (the_check.clauses 𝓛 at_mem run (κ, tt) (records, (terms, (keys, (values, (ps, (ls, tt))))))).ensures tt r (records, (terms, (keys, (values, (ps, (ls, tt))))))
-      ≡ fact 𝓤 (Allowed_lem r)
-  check_says_lem 𝓛 at_mem run κ r = refl
+      ≡ fact 𝓤 (Allowed r)
+  check_says 𝓛 at_mem run κ r = refl
 
-  pub check_lem : OneResult Allowed_lem
+  pub check_lem : OneResult Allowed
   check_lem = one_result (check_of records.now (lent terms.now keys.now values.now ps.now ls.now))

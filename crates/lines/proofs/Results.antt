@@ -40,13 +40,13 @@ one_more_lem n = one_result (one_more n)
 
 module _ (r : MutBor Reader) (b : ℕ) where
   -- what is allowed of the lent reader at the end
-  abbrev pub Allowed_lem : Reader → Type 0
-  Allowed_lem q = q ≡ reader_after r.now b
+  abbrev pub Allowed : Reader → Type 0
+  Allowed q = q ≡ reader_after r.now b
 
-  pub take_says_lem : {M : Type 1} {𝓤 : Ura M} (𝓛 : Logic 𝓤) (at_mem : Memory → SProp 𝓤) (run : Routine → Fun 𝓤) (κ : Lft) (o : MutBor Reader)
+  pub take_says : {M : Type 1} {𝓤 : Ura M} (𝓛 : Logic 𝓤) (at_mem : Memory → SProp 𝓤) (run : Routine → Fun 𝓤) (κ : Lft) (o : MutBor Reader)
       → (the_take.clauses 𝓛 at_mem run (κ, tt) (r, (b, tt))).ensures tt tt (o, (b, tt))
-      ≡ fact 𝓤 (Allowed_lem o.now)
-  take_says_lem 𝓛 at_mem run κ o = refl
+      ≡ fact 𝓤 (Allowed o.now)
+  take_says 𝓛 at_mem run κ o = refl
 
-  pub take_lem : OneResult Allowed_lem
+  pub take_lem : OneResult Allowed
   take_lem = one_result (reader_after r.now b)

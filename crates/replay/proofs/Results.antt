@@ -54,40 +54,40 @@ close_lem κs s out = one_outcome (finish_of s (length out.now)) (finish_out s o
 
 -- where the reader is lent, the contract says of the result, of the reader at the end and of the buffer what is allowed, and of each that is one
 module _ (c : Cluster) (r : MutBor Reader) (out : MutBor (List ℕ)) where
-  abbrev was_lem : Session
-  was_lem = record { cluster = c; reader = r.now }
+  abbrev was : Session
+  was = record { cluster = c; reader = r.now }
 
   module _ (text : Bor (List ℕ)) where
-    abbrev pub AllowedFed_lem : Fed → Type 0
-    AllowedFed_lem f = f ≡ fed_of was_lem text.now (length out.now)
+    abbrev pub AllowedFed : Fed → Type 0
+    AllowedFed f = f ≡ fed_of was text.now (length out.now)
 
-    abbrev pub AllowedReader_lem : Reader → Type 0
-    AllowedReader_lem q = q ≡ (fed_of was_lem text.now (length out.now)).session.reader
+    abbrev pub AllowedReader : Reader → Type 0
+    AllowedReader q = q ≡ (fed_of was text.now (length out.now)).session.reader
 
-    abbrev pub AllowedOut_lem : List ℕ → Type 0
-    AllowedOut_lem o = o ≡ fed_out was_lem text.now out.now
+    abbrev pub AllowedOut : List ℕ → Type 0
+    AllowedOut o = o ≡ fed_out was text.now out.now
 
-    pub feed_says_lem : {M : Type 1} {𝓤 : Ura M} (𝓛 : Logic 𝓤) (at_mem : Memory → SProp 𝓤) (run : Routine → Fun 𝓤) (κs : Lfts 3) (f : Fed) (q : MutBor Reader) (o : MutBor (List ℕ))
+    pub feed_says : {M : Type 1} {𝓤 : Ura M} (𝓛 : Logic 𝓤) (at_mem : Memory → SProp 𝓤) (run : Routine → Fun 𝓤) (κs : Lfts 3) (f : Fed) (q : MutBor Reader) (o : MutBor (List ℕ))
         → (the_feed.clauses 𝓛 at_mem run κs (c, (r, (text, (out, tt))))).ensures tt f (c, (q, (text, (o, tt))))
-        ≡ sep 𝓤 (fact 𝓤 (AllowedFed_lem f)) (sep 𝓤 (fact 𝓤 (AllowedReader_lem q.now)) (fact 𝓤 (AllowedOut_lem o.now)))
-    feed_says_lem 𝓛 at_mem run κs f q o = refl
+        ≡ sep 𝓤 (fact 𝓤 (AllowedFed f)) (sep 𝓤 (fact 𝓤 (AllowedReader q.now)) (fact 𝓤 (AllowedOut o.now)))
+    feed_says 𝓛 at_mem run κs f q o = refl
 
-    pub feed_lem : OneResult AllowedFed_lem × OneResult AllowedReader_lem × OneResult AllowedOut_lem
+    pub feed_lem : OneResult AllowedFed × OneResult AllowedReader × OneResult AllowedOut
     feed_lem = (one_result _, one_result _, one_result _)
 
-  abbrev pub AllowedEnd_lem : Finished → Type 0
-  AllowedEnd_lem f = f ≡ finish_of was_lem (length out.now)
+  abbrev pub AllowedEnd : Finished → Type 0
+  AllowedEnd f = f ≡ finish_of was (length out.now)
 
-  abbrev pub AllowedEndReader_lem : Reader → Type 0
-  AllowedEndReader_lem q = q ≡ (finish_of was_lem (length out.now)).session.reader
+  abbrev pub AllowedEndReader : Reader → Type 0
+  AllowedEndReader q = q ≡ (finish_of was (length out.now)).session.reader
 
-  abbrev pub AllowedEndOut_lem : List ℕ → Type 0
-  AllowedEndOut_lem o = o ≡ finish_out was_lem out.now
+  abbrev pub AllowedEndOut : List ℕ → Type 0
+  AllowedEndOut o = o ≡ finish_out was out.now
 
-  pub finish_says_lem : {M : Type 1} {𝓤 : Ura M} (𝓛 : Logic 𝓤) (at_mem : Memory → SProp 𝓤) (run : Routine → Fun 𝓤) (κs : Lfts 2) (f : Finished) (q : MutBor Reader) (o : MutBor (List ℕ))
+  pub finish_says : {M : Type 1} {𝓤 : Ura M} (𝓛 : Logic 𝓤) (at_mem : Memory → SProp 𝓤) (run : Routine → Fun 𝓤) (κs : Lfts 2) (f : Finished) (q : MutBor Reader) (o : MutBor (List ℕ))
       → (the_finish.clauses 𝓛 at_mem run κs (c, (r, (out, tt)))).ensures tt f (c, (q, (o, tt)))
-      ≡ sep 𝓤 (fact 𝓤 (AllowedEnd_lem f)) (sep 𝓤 (fact 𝓤 (AllowedEndReader_lem q.now)) (fact 𝓤 (AllowedEndOut_lem o.now)))
-  finish_says_lem 𝓛 at_mem run κs f q o = refl
+      ≡ sep 𝓤 (fact 𝓤 (AllowedEnd f)) (sep 𝓤 (fact 𝓤 (AllowedEndReader q.now)) (fact 𝓤 (AllowedEndOut o.now)))
+  finish_says 𝓛 at_mem run κs f q o = refl
 
-  pub finish_lem : OneResult AllowedEnd_lem × OneResult AllowedEndReader_lem × OneResult AllowedEndOut_lem
+  pub finish_lem : OneResult AllowedEnd × OneResult AllowedEndReader × OneResult AllowedEndOut
   finish_lem = (one_result _, one_result _, one_result _)
