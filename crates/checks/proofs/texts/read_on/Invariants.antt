@@ -3,7 +3,7 @@ use Rattle.checks.proofs.Turns.{Going}
 use Rattle.checks.proofs.texts.read_on.Given as goal
 
 abbrev pub invariant-loop-turns : goal.invariant-loop-turns
-invariant-loop-turns g l = Going l.steps l.initial.d l.d l.turns
+invariant-loop-turns l = Going l.steps l.initial.d l.d l.turns
 
 abbrev pub decreases-loop-turns : goal.decreases-loop-turns
-decreases-loop-turns g l = l.turns
+decreases-loop-turns l = l.turns
