@@ -8,12 +8,18 @@ mod say;
 mod sentence;
 mod texts;
 
+use std::fs::File;
 use std::rt::Files;
 use streams::Streams;
 
+// Where the phones' records are read: what is open at descriptor 5.
+const PHONES: &str = "/dev/fd/5";
+
 // The program. What it reads and writes no contract can say.
-pub fn run<R: Files>(files: &R, streams: &Streams) {
-    let b = texts::read(files, streams);
+pub fn run<R: Files<File = File>>(files: &R, streams: &Streams) {
+    let mut steps = streams.input();
+    let mut phones = streams::open(files, PHONES);
+    let b = texts::read(&mut steps, &mut phones);
     if !b.steps {
         say::cannot_read_steps(streams);
         return;

@@ -8,12 +8,7 @@ use crate::passed::{Passed, Passing};
 use followed::{Following, Run};
 use lines::{End, PIECE};
 use phones::{Listed, Listing};
-use std::io::Read;
-use std::rt::Files;
-use streams::{Source, Streams};
-
-// Where the phones' records are read: what is open at descriptor 5.
-const PHONES: &str = "/dev/fd/5";
+use streams::Source;
 
 // Both texts as far as they were read, and what is passed over of the step lines, and of the phones'.
 #[derive(Clone, Copy)]
@@ -101,7 +96,7 @@ fn turn(t: Texts, steps: bool, buffer: &[u8], got: isize) -> Taken
 }
 
 // A source to its end. The count of turns only makes the loop end: nobody lives to see it run out.
-fn read_on<F: Read>(source: &mut Source<F>, t: Texts, steps: bool) -> Taken
+fn read_on(source: &mut Source, t: Texts, steps: bool) -> Taken
     ensures { ReadOn steps t result.texts result.end }
 {
     let mut d = t;
@@ -124,14 +119,12 @@ fn read_on<F: Read>(source: &mut Source<F>, t: Texts, steps: bool) -> Taken
     }
 }
 
-pub(crate) fn read<R: Files>(files: &R, streams: &Streams) -> Both
+pub(crate) fn read(steps: &mut Source, phones: &mut Source) -> Both
     ensures { ReadsBoth result }
 {
-    let mut steps = streams.input();
-    let first = read_on(&mut steps, begin(), true);
+    let first = read_on(steps, begin(), true);
     let t = first.texts;
-    let mut phones = streams::open(files, PHONES);
-    let second = read_on(&mut phones, t, false);
+    let second = read_on(phones, t, false);
     let u = second.texts;
     let f = u.following;
     let l = u.listing;

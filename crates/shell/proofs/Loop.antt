@@ -4,8 +4,6 @@ use mathlib.Core.Bool.{Bool, true, false, ◌&&◌}
 use mathlib.Core.List.{List, [], ◌∷◌, ◌++◌}
 use Prim.Native.Nat.{ℕ, ◌≤◌, ◌*◌}
 use lib.ListN.{length}
-use types.Run.{OneOf}
-use denote.Enum.Declared.{tag_of}
 use borrow.Author.Tests.{le-ltb}
 use Rattle.base.proofs.Bools.{not_both}
 use Rattle.cluster.specs.declared.Cluster.{Cluster}
@@ -18,14 +16,12 @@ use Rattle.lines.specs.Readers.{is_empty}
 use Rattle.replay.specs.Pieces.{answer_line, begun, runs, says, runs_all, says_all, fed_of, fed_out, ending, ended, finish_of}
 use Rattle.replay.proofs.Whole.{any_pieces, any_pieces_record}
 use Rattle.replay.proofs.Parts.{fed_all, fed_all_out}
-use Rattle.lines.specs.declared.End.{End}
 use Rattle.lines.specs.declared.End.TheVariants.{Input}
 use Rattle.shell.specs.declared.Drained.{Drained}
 use Rattle.shell.specs.declared.saves.Led.{Led}
-use Rattle.lines.specs.contracts.End.{the_type}
 use Rattle.lines.specs.Turns.{is_input, over_pieces, DrainsBy}
 use Rattle.lines.specs.Folds.{at_end}
-use Rattle.lines.proofs.Turns.{not_at_end}
+use Rattle.trails.proofs.Following.{not_input}
 use Rattle.trails.specs.declared.follow.Traced.{Traced}
 use Rattle.trails.specs.Loop.{Follows}
 use Rattle.shell.specs.Loop.{closed_by, finished_by, Poured, Finishes, Answered, TracedAll}
@@ -80,13 +76,13 @@ answered_all c s d r b g i e =
       record_left = λ _. ap (λ (l : Led). l.cluster) e.result ∙ drained_record c d h;
     }
 
-pub answered_not : (c : Cluster) (s : Session) (d : Drained) (r : Led) → s ≡ begun c → DrainsBy runs s d.session d.end → OneOf (0 ∷ 2 ∷ 3 ∷ []) (tag_of the_type d.end) → r.well ≡ false → Answered c r
+pub answered_not : (c : Cluster) (s : Session) (d : Drained) (r : Led) → s ≡ begun c → DrainsBy runs s d.session d.end → (d.end ≡ Input → ⊥) → r.well ≡ false → Answered c r
 answered_not c s d r b g o e =
     record {
       turns = d;
       drains = subst (λ (x : Session). DrainsBy runs x d.session d.end) b g;
       wrote = false;
-      well = e ∙ ap (λ (x : Bool). x && false) (sym (not_at_end d.end o));
+      well = e ∙ ap (λ (x : Bool). x && false) (sym (not_input d.end o));
       record_left = λ h. not_both _ h e;
     }
 
@@ -96,11 +92,11 @@ module _ (c : Cluster) (t : Traced) (f : Follows c t) where
   pub traced_all : t.end ≡ Input → TracedAll c (record { cluster = t.cluster; well = true })
   traced_all i = record { run = t; follows = f; well = sym (ap is_input i); record_left = refl }
 
-  pub traced_not : (r : Led) → OneOf (0 ∷ 2 ∷ 3 ∷ []) (tag_of the_type t.end) → r ≡ record { cluster = t.cluster; well = false } → TracedAll c r
+  pub traced_not : (r : Led) → (t.end ≡ Input → ⊥) → r ≡ record { cluster = t.cluster; well = false } → TracedAll c r
   traced_not r o e =
       record {
         run = t;
         follows = f;
-        well = ap (λ (l : Led). l.well) e ∙ sym (not_at_end t.end o);
+        well = ap (λ (l : Led). l.well) e ∙ sym (not_input t.end o);
         record_left = ap (λ (l : Led). l.cluster) e;
       }

@@ -11,8 +11,6 @@ use lib.IntN.{ℤ, pos, negsuc}
 use lib.Signed.{lt_z}
 use mir.Syntax.{w64}
 use mir.Val.{SFits, to_z, of_z}
-use types.Run.{OneOf, miss}
-use denote.Enum.Declared.{tag_of}
 use borrow.Author.Tests.{eqb-true, lt-ltb, le-ltb, ltb-true, ltb-false}
 use Rattle.base.proofs.Bools.{not_both}
 use Rattle.io.specs.Counts.{clamp_len}
@@ -24,7 +22,6 @@ use Rattle.steps.specs.declared.Answer.TheVariants as A
 use Rattle.steps.specs.declared.Outcome.{Outcome}
 use Rattle.steps.specs.declared.Refusal.TheVariants.{NotAFrame, IllFormed}
 use Rattle.steps.specs.Answers.{refusing_all}
-use Rattle.steps.specs.contracts.Answer.{the_type}
 use Rattle.lines.specs.Texts.{together}
 use Rattle.saved.specs.Editions.{editions}
 use Rattle.saved.specs.Shape.{named_by}
@@ -135,12 +132,9 @@ answered_led text c o h z e = led_as text h ∙ ap (λ (x : Outcome). led_by x.c
 pub loaded_led : (text : List ℕ) (c : Cluster) (o : Outcome) → length text ≤ longest → c ≡ zero_cluster → o ≡ load_of c text → o.answer ≡ A.Done → led o.cluster ≡ led_of text
 loaded_led text c o h z e d = sym (answered_led text c o h z e ∙ ap (led_by o.cluster) d)
 
--- the places of the answers that load nothing
-abbrev others : List ℕ
-others = 1 ∷ 2 ∷ 3 ∷ 4 ∷ 5 ∷ []
-
-none_led : (c : Cluster) (a : Answer) → OneOf others (tag_of the_type a) → led_by c a ≡ not_led
-none_led c A.Done h = absurd (miss others 0 tt h)
+-- every answer but one loads nothing
+none_led : (c : Cluster) (a : Answer) → (a ≡ A.Done → ⊥) → led_by c a ≡ not_led
+none_led c A.Done h = absurd (h refl)
 none_led c (A.Elected term) h = refl
 none_led c (A.Reached n) h = refl
 none_led c (A.Entry n term time) h = refl
@@ -148,7 +142,7 @@ none_led c (A.Value value time) h = refl
 none_led c (A.Refused r) h = refl
 
 pub refused_led : (text : List ℕ) (c : Cluster) (o : Outcome) → length text ≤ longest → c ≡ zero_cluster → o ≡ load_of c text
-    → OneOf others (tag_of the_type o.answer) → not_led ≡ led_of text
+    → (o.answer ≡ A.Done → ⊥) → not_led ≡ led_of text
 refused_led text c o h z e n = sym (answered_led text c o h z e ∙ none_led o.cluster o.answer n)
 
 -- the program takes exactly the texts that load, and their records

@@ -21,8 +21,9 @@ use lines::{End, PIECE};
 use orders::{Ordered, Orders};
 use replay::Session;
 use saves::Led;
+use std::fs::File;
 use std::rt::Files;
-use streams::Streams;
+use streams::{Source, Streams};
 use trails::{Wanted, follow};
 
 // Where the orders are read: what is open at descriptor 7.
@@ -207,11 +208,11 @@ fn traced(streams: &Streams, w: Wanted, c: Cluster) -> Led
 }
 
 // The record that a run begins with: one that is loaded, or the one before the first start.
-fn first_record<R: Files>(files: &R, streams: &Streams, o: Orders) -> Led
+fn first_record(streams: &Streams, source: &mut Source, o: Orders) -> Led
     ensures { BeginsBy o result }
 {
     if o.load {
-        return saves::load(files, streams);
+        return saves::load(streams, source);
     }
     Led {
         cluster: cluster::zero_cluster(),
@@ -227,10 +228,10 @@ fn is_quiet(o: Orders) -> bool
 }
 
 // A run as ordered: the record after it. Where there is none to begin with, nothing is read.
-fn run_through<R: Files>(files: &R, streams: &Streams, o: Orders) -> Led
+fn run_through(streams: &Streams, source: &mut Source, o: Orders) -> Led
     ensures { RunsBy o result }
 {
-    let l = first_record(files, streams, o);
+    let l = first_record(streams, source, o);
     if !l.well {
         return l;
     }
@@ -253,9 +254,18 @@ fn is_saved(o: Orders, well: bool) -> bool
     o.save && well
 }
 
+// What a record is loaded from, where one is.
+fn loaded_from<R: Files<File = File>>(files: &R, o: Orders) -> Source {
+    if o.load {
+        return streams::open(files, saves::LOAD);
+    }
+    Source::Closed
+}
+
 // A run as ordered, and what is left of it: the table, the plan, and then the saved form, unless one before it couldn't be written.
-fn obey<R: Files>(files: &R, streams: &Streams, o: Orders) {
-    let l = run_through(files, streams, o);
+fn obey<R: Files<File = File>>(files: &R, streams: &Streams, o: Orders) {
+    let mut source = loaded_from(files, o);
+    let l = run_through(streams, &mut source, o);
     let c = l.cluster;
     let mut well = l.well;
     if o.list && well {
@@ -270,7 +280,7 @@ fn obey<R: Files>(files: &R, streams: &Streams, o: Orders) {
 }
 
 // The orders that were given: none where the descriptor is closed. One byte more than the line has is read, by which a longer text is told.
-fn given<R: Files>(files: &R) -> Ordered {
+fn given<R: Files<File = File>>(files: &R) -> Ordered {
     let mut text = [0; orders::ORDER_LINE + 1];
     let mut source = streams::open(files, ORDERS);
     let n = source.read_full(&mut text);
@@ -278,7 +288,7 @@ fn given<R: Files>(files: &R) -> Ordered {
 }
 
 // The program. What it reads and writes no contract can say.
-pub fn run<R: Files>(files: &R, streams: &Streams) {
+pub fn run<R: Files<File = File>>(files: &R, streams: &Streams) {
     let ordered = given(files);
     match ordered {
         Ordered::Known(o) => obey(files, streams, o),

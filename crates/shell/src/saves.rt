@@ -7,13 +7,12 @@ use cluster::Cluster;
 use lines::{End, PIECE};
 use saved::Saved;
 use shapes::Shape;
-use std::io::Read;
 use std::rt::Files;
 use steps::Answer;
 use streams::{Source, Streams};
 
 // Where a record is loaded from, and saved to: what is open at descriptors 5 and 6.
-const LOAD: &str = "/dev/fd/5";
+pub(crate) const LOAD: &str = "/dev/fd/5";
 
 const SAVE: &str = "/dev/fd/6";
 
@@ -62,7 +61,7 @@ fn walk_turn(w: Walked, buffer: &[u8], got: isize) -> Walked
 }
 
 // The rest of a text whose beginning has this shape: it is read to its end and let go.
-fn walk_on<F: Read>(source: &mut Source<F>, s: Shape) -> Walked
+fn walk_on(source: &mut Source, s: Shape) -> Walked
     ensures { WalksOn s result }
 {
     let mut w = Walked {
@@ -126,13 +125,12 @@ fn loaded(streams: &Streams, text: &[u8], shape: Shape) -> Led
 }
 
 // The record that was saved. The text is kept as far as a saved form can be long; reading on tells whether that was all.
-pub(crate) fn load<R: Files>(files: &R, streams: &Streams) -> Led
+pub(crate) fn load(streams: &Streams, source: &mut Source) -> Led
     ensures { Loads result }
 {
     let mut kept = [0; KEPT];
-    let mut source = streams::open(files, LOAD);
     let n = source.read_full(&mut kept);
-    let w = walk_on(&mut source, shapes::walk(shapes::begin(), &kept[..n]));
+    let w = walk_on(source, shapes::walk(shapes::begin(), &kept[..n]));
     let shape = w.shape;
     let end = w.end;
     let End::Input = end else {

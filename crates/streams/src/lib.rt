@@ -23,10 +23,12 @@ pub struct Streams {
     unread: Cell<bool>,
 }
 
-// What a launcher has opened to be read, or nothing where it has not.
+// What is read to its end: standard input, a file that was opened, or nothing where none could be.
 #[derive(Drop)]
-pub struct Source<F> {
-    file: Option<F>,
+pub enum Source {
+    Input(Stdin),
+    Opened(File),
+    Closed,
 }
 
 // What a read answered: how many bytes it put at the start of the buffer, none at the end of the input, and a negative number where it failed.
@@ -58,10 +60,10 @@ pub fn read_full<R: Read>(from: &mut R, buffer: &mut [u8]) -> usize
 }
 
 // What stands at a path to be read, as /dev/fd/7 does for what is open at descriptor 7.
-pub fn open<R: Files>(files: &R, path: &str) -> Source<R::File> {
+pub fn open<R: Files<File = File>>(files: &R, path: &str) -> Source {
     match File::open(files, path) {
-        Ok(file) => Source { file: Some(file) },
-        Err(_) => Source { file: None },
+        Ok(file) => Source::Opened(file),
+        Err(_) => Source::Closed,
     }
 }
 
@@ -73,12 +75,13 @@ pub fn write_to<R: Files>(files: &R, path: &str, bytes: &[u8]) -> std::io::Resul
     file.write_all(bytes)
 }
 
-impl<F: Read> Source<F> {
-    // What a read answered; where nothing is open it failed.
+impl Source {
+    // What a read answered; of what is closed it failed.
     pub fn read(&mut self, buffer: &mut [u8]) -> isize {
-        match &mut self.file {
-            Some(file) => read_some(file, buffer),
-            None => -1,
+        match self {
+            Source::Input(input) => read_some(input, buffer),
+            Source::Opened(file) => read_some(file, buffer),
+            Source::Closed => -1,
         }
     }
 
@@ -86,9 +89,10 @@ impl<F: Read> Source<F> {
     pub fn read_full(&mut self, buffer: &mut [u8]) -> usize
         ensures { IsPrefixLen result buffer.new }
     {
-        match &mut self.file {
-            Some(file) => read_full(file, buffer),
-            None => 0,
+        match self {
+            Source::Input(input) => read_full(input, buffer),
+            Source::Opened(file) => read_full(file, buffer),
+            Source::Closed => 0,
         }
     }
 }
@@ -104,10 +108,8 @@ impl Streams {
     }
 
     // Standard input, for what reads any source.
-    pub fn input(&self) -> Source<Stdin> {
-        Source {
-            file: Some(self.input),
-        }
+    pub fn input(&self) -> Source {
+        Source::Input(self.input)
     }
 
     // What a read of standard input answered.
