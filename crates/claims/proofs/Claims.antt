@@ -9,7 +9,7 @@ use prog.Routine.{Routine}
 use types.Logic.{Logic}
 use contract.Lifetimes.{Lfts}
 use contract.Monad.{Fun, fact}
-use denote.Ref.{Bor}
+use denote.Ref.{Bor, MutBor}
 use mathlib.Core.Path.{◌≡◌, refl}
 use mathlib.Core.Logic.{◌⊎◌, ◌≢◌, ◌↔◌}
 use mathlib.Core.Bool.{Bool, true, false, cond, ◌||◌}
@@ -361,27 +361,27 @@ one_frame_an_answer = tellings.written_read_telling
 
 -- a piece of a text, and its end, are answered as defined, whatever the buffer: by a caller's reader that is lent, and by a session that lends its own;
 -- and so is each byte
-pub take_is : {M : Type 1} {𝓤 : Ura M} (𝓛 : Logic 𝓤) (at_mem : Memory → SProp 𝓤) (run : Routine → Fun 𝓤) (κ : Lft) (r o : Bor Reader) (b : ℕ)
+pub take_is : {M : Type 1} {𝓤 : Ura M} (𝓛 : Logic 𝓤) (at_mem : Memory → SProp 𝓤) (run : Routine → Fun 𝓤) (κ : Lft) (r o : MutBor Reader) (b : ℕ)
     → (take_contract.clauses 𝓛 at_mem run (κ, tt) (r, (b, tt))).ensures tt tt (o, (b, tt)) ≡ fact 𝓤 (o.now ≡ reader_after r.now b)
 take_is 𝓛 at_mem run κ r o b = lines_results.take_says r b 𝓛 at_mem run κ o
 
-pub feed_is : {M : Type 1} {𝓤 : Ura M} (𝓛 : Logic 𝓤) (at_mem : Memory → SProp 𝓤) (run : Routine → Fun 𝓤) (κs : Lfts 3) (c : Cluster) (r q : Bor Reader)
-    (text out o : Bor (List ℕ)) (f : Fed) → let g = fed_of (record { cluster = c; reader = r.now }) text.now (length out.now) in
+pub feed_is : {M : Type 1} {𝓤 : Ura M} (𝓛 : Logic 𝓤) (at_mem : Memory → SProp 𝓤) (run : Routine → Fun 𝓤) (κs : Lfts 3) (c : Cluster) (r q : MutBor Reader)
+    (text : Bor (List ℕ)) (out o : MutBor (List ℕ)) (f : Fed) → let g = fed_of (record { cluster = c; reader = r.now }) text.now (length out.now) in
     (feed_contract.clauses 𝓛 at_mem run κs (c, (r, (text, (out, tt))))).ensures tt f (c, (q, (text, (o, tt))))
     ≡ sep 𝓤 (fact 𝓤 (f ≡ g)) (sep 𝓤 (fact 𝓤 (q.now ≡ g.session.reader)) (fact 𝓤 (o.now ≡ fed_out (record { cluster = c; reader = r.now }) text.now out.now)))
 feed_is 𝓛 at_mem run κs c r q text out o f = replay_results.feed_says c r out text 𝓛 at_mem run κs f q o
 
-pub finish_is : {M : Type 1} {𝓤 : Ura M} (𝓛 : Logic 𝓤) (at_mem : Memory → SProp 𝓤) (run : Routine → Fun 𝓤) (κs : Lfts 2) (c : Cluster) (r q : Bor Reader)
-    (out o : Bor (List ℕ)) (f : Finished) → let g = finish_of (record { cluster = c; reader = r.now }) (length out.now) in
+pub finish_is : {M : Type 1} {𝓤 : Ura M} (𝓛 : Logic 𝓤) (at_mem : Memory → SProp 𝓤) (run : Routine → Fun 𝓤) (κs : Lfts 2) (c : Cluster) (r q : MutBor Reader)
+    (out o : MutBor (List ℕ)) (f : Finished) → let g = finish_of (record { cluster = c; reader = r.now }) (length out.now) in
     (finish_contract.clauses 𝓛 at_mem run κs (c, (r, (out, tt)))).ensures tt f (c, (q, (o, tt)))
     ≡ sep 𝓤 (fact 𝓤 (f ≡ g)) (sep 𝓤 (fact 𝓤 (q.now ≡ g.session.reader)) (fact 𝓤 (o.now ≡ finish_out (record { cluster = c; reader = r.now }) out.now)))
 finish_is 𝓛 at_mem run κs c r q out o f = replay_results.finish_says c r out 𝓛 at_mem run κs f q o
 
-pub pour_is : (κs : Lfts 2) (s : Session) (text out o : Bor (List ℕ)) (r : Fed) → pour_contract.Learnt κs (s, (text, (out, tt))) r (s, (text, (o, tt)))
+pub pour_is : (κs : Lfts 2) (s : Session) (text : Bor (List ℕ)) (out o : MutBor (List ℕ)) (r : Fed) → pour_contract.Learnt κs (s, (text, (out, tt))) r (s, (text, (o, tt)))
     → (r ≡ fed_of s text.now (length out.now)) × (o.now ≡ fed_out s text.now out.now)
 pour_is κs s text out o r e = e
 
-pub close_is : (κs : Lfts 1) (s : Session) (out o : Bor (List ℕ)) (r : Finished) → close_contract.Learnt κs (s, (out, tt)) r (s, (o, tt))
+pub close_is : (κs : Lfts 1) (s : Session) (out o : MutBor (List ℕ)) (r : Finished) → close_contract.Learnt κs (s, (out, tt)) r (s, (o, tt))
     → (r ≡ finish_of s (length out.now)) × (o.now ≡ finish_out s out.now)
 close_is κs s out o r e = e
 
@@ -500,7 +500,7 @@ a_count_is_retired c a count n term w l o m k =
 -- ---- saving and loading
 
 -- a well-formed record's saved form is written where the longest has room, an ill-formed one is refused with 2, and else the buffer is as it was
-pub save_is : (κs : Lfts 1) (c : Cluster) (out o : Bor (List ℕ)) (r : Saved) → save_contract.Learnt κs (c, (out, tt)) r (c, (o, tt))
+pub save_is : (κs : Lfts 1) (c : Cluster) (out o : MutBor (List ℕ)) (r : Saved) → save_contract.Learnt κs (c, (out, tt)) r (c, (o, tt))
     → (r ≡ saved_of c (length out.now)) × (o.now ≡ saved_out c out.now)
 save_is κs c out o r e = e
 
@@ -518,7 +518,7 @@ unfolding save_of
 no_saved_form_is_longer c f w = saved_frames.saved_length c f w (newest).number
 
 -- in an edition that is known a record is saved where that has a form for it, and the newest has one for every well-formed record
-pub save_as_is : (κs : Lfts 1) (n : ℕ) (c : Cluster) (out o : Bor (List ℕ)) (r : Saved) → save_as_contract.Learnt κs (n, (c, (out, tt))) r (n, (c, (o, tt)))
+pub save_as_is : (κs : Lfts 1) (n : ℕ) (c : Cluster) (out o : MutBor (List ℕ)) (r : Saved) → save_as_contract.Learnt κs (n, (c, (out, tt))) r (n, (c, (o, tt)))
     → (r ≡ saved_as_of n c (length out.now)) × (o.now ≡ saved_as_out n c out.now)
 save_as_is κs n c out o r e = e
 
@@ -872,7 +872,7 @@ pub a_pair_is_the_line_and_its_answer : (text : List ℕ) (a : Answer) → text_
 a_pair_is_the_line_and_its_answer = traces.text_pair
 
 -- a line's part of a trace, in any buffer: its pair, and the form of the record where that has changed
-pub put_line_is : (κs : Lfts 1) (w : Wanted) (n : ℕ) (c : Cluster) (k : CutLine) (out o : Bor (List ℕ)) (r : Lined)
+pub put_line_is : (κs : Lfts 1) (w : Wanted) (n : ℕ) (c : Cluster) (k : CutLine) (out o : MutBor (List ℕ)) (r : Lined)
     → put_line_contract.Learnt κs (w, (n, (c, (k, (out, tt))))) r (w, (n, (c, (k, (o, tt)))))
     → (r ≡ lined_of w n c k (length out.now)) × (o.now ≡ lined_out w n c k out.now)
 put_line_is κs w n c k out o r e = e
@@ -953,11 +953,11 @@ read_answer_decides = answers_results.read_answer_lem
 pub write_answer_decides : (a : Answer) → OneResult (λ r. write_answer_contract.Learnt tt (a, tt) r (a, tt))
 write_answer_decides = answers_results.write_answer_lem
 
-pub pour_decides : (κs : Lfts 2) (s : Session) (text out : Bor (List ℕ))
+pub pour_decides : (κs : Lfts 2) (s : Session) (text : Bor (List ℕ)) (out : MutBor (List ℕ))
     → OneOutcome (λ r o. pour_contract.Learnt κs (s, (text, (out, tt))) r (s, (text, (o, tt))))
 pour_decides = replay_results.pour_lem
 
-pub close_decides : (κs : Lfts 1) (s : Session) (out : Bor (List ℕ)) → OneOutcome (λ r o. close_contract.Learnt κs (s, (out, tt)) r (s, (o, tt)))
+pub close_decides : (κs : Lfts 1) (s : Session) (out : MutBor (List ℕ)) → OneOutcome (λ r o. close_contract.Learnt κs (s, (out, tt)) r (s, (o, tt)))
 close_decides = replay_results.close_lem
 
 pub plan_decides : (c : Cluster) (key value : ℕ) → OneResult (λ r. plan_contract.Learnt tt (c, (key, (value, tt))) r (c, (key, (value, tt))))
