@@ -33,7 +33,7 @@ rebuild() {
     ! command -v flock >/dev/null 2>&1 || flock 6
     stale || return 0
     echo "${0##*/}: the program is missing or older than its sources, so it is proved and built first: that can take some minutes" >&2
-    CDPATH='' cd "$here/crates/${program##*/}" && rt run </dev/null >/dev/null 5<&- 6>&- 7<&- && touch "out/${program##*/}"
+    CDPATH='' cd "$here/crates/${program##*/}" && rt run </dev/null >/dev/null 5</dev/null 6>&- 7<&- && touch "out/${program##*/}"
 }
 
 # The same, one launcher at a time.
