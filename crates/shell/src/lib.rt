@@ -256,10 +256,10 @@ fn is_saved(o: Orders, well: bool) -> bool
 
 // What a record is loaded from, where one is.
 fn loaded_from<R: Files<File = File>>(files: &R, o: Orders) -> Source {
-    if o.load {
-        return streams::open(files, saves::LOAD);
+    if !o.load {
+        return Source::Closed;
     }
-    Source::Closed
+    streams::open(files, saves::LOAD)
 }
 
 // A run as ordered, and what is left of it: the table, the plan, and then the saved form, unless one before it couldn't be written.
