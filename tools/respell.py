@@ -153,6 +153,7 @@ def main(argv):
         return 0
     # A camel-case word is nobody's but the repository's.
     camel = {n: t for names in turned.values() for n, t in names.items() if re.search(r"[a-z0-9][A-Z]", n.split("-")[0]) and n[0].islower()}
+    anywhere = {n: t for names in turned.values() for n, t in names.items()}
     trouble = []
     fields = {n: new_name(n) for n in inner if new_name(n) != n}
 
@@ -191,6 +192,8 @@ def main(argv):
                     t = aliases[path_to[1]][n]
                 elif not path_to[1].startswith("Rattle"):
                     t = fields.get(n, n)
+            elif text[m.start() - 1 : m.start()] == "`":
+                t = scope.get(n) or fields.get(n) or anywhere.get(n, n)
             elif not in_prose(text, m.start()):
                 t = scope.get(n) or fields.get(n, n)
             out.append(text[last : m.start()])

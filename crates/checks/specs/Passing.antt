@@ -51,7 +51,7 @@ passed_after_line p line = passed_after_read p (read_step line) (last_after 0 li
 abbrev pub passed_of : List ℕ → Passed
 passed_of text = over_lines passed_after_line new_passed (lines text)
 
--- ---- byte by byte, which by `passed-text` comes to the same
+-- ---- byte by byte, which by `passed_text` comes to the same
 
 abbrev pub new_passing : Passing
 new_passing = record { passed = new_passed; reader = fresh_reader; last = 0 }

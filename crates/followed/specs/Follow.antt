@@ -62,7 +62,7 @@ abbrev pub NoneStarts : Cluster → List (List ℕ) → Type 0
 NoneStarts c [] = Unit {0}
 NoneStarts c (l ∷ ls) = (begins (read_step l) (answer_to c l).answer ≡ false) × NoneStarts (answer_to c l).cluster ls
 
--- ---- byte by byte, which by `followed-pieces` comes to the same
+-- ---- byte by byte, which by `followed_pieces` comes to the same
 
 abbrev pub new_following : Following
 new_following = record { run = new_run; reader = fresh_reader }

@@ -1,4 +1,4 @@
--- The longest beginning that commit points have ever covered, kept as a log. Nobody has to believe this: by `kept-live` its entries are those
+-- The longest beginning that commit points have ever covered, kept as a log. Nobody has to believe this: by `kept_live` its entries are those
 -- of `longer_of`. Assumes nothing.
 use Rattle.std.specs.Prelude.{cond, ℕ, zero, suc, min, ltb}
 use Rattle.server_log.specs.declared.Log.{Log}

@@ -44,7 +44,7 @@ holder es = record { head = record { term = limit; primary = false; commit = 0; 
 abbrev record_of : List Entry → Cluster
 record_of es = with_server (fresh_cluster fewest_servers 0) 0 (holder es)
 
-module _ (es : List Entry) (short : length es ≤ committed_limit) (order : Orderly limit es) (each-Fits : (n : ℕ) → FitsEntry (entry_at es n)) where
+module _ (es : List Entry) (short : length es ≤ committed_limit) (order : Orderly limit es) (each_fits : (n : ℕ) → FitsEntry (entry_at es n)) where
   -- one log keeps them all
   room : length es ≤ log_limit
   room = omega arith
@@ -66,7 +66,7 @@ module _ (es : List Entry) (short : length es ≤ committed_limit) (order : Orde
   fits_holder : FitsServer (holder es)
   fits_holder =
       record {
-        head = record { term = omega arith; commit = omega arith; wall = omega arith; time = (each-Fits (length es)).time };
+        head = record { term = omega arith; commit = omega arith; wall = omega arith; time = (each_fits (length es)).time };
         log = fits_log;
         mail = fits_zero_mail;
         rows = fits_rows_of fits_log 0;
@@ -75,7 +75,7 @@ module _ (es : List Entry) (short : length es ≤ committed_limit) (order : Orde
       slot : (i : ℕ) → i < log_limit → FitsEntry (get_or (log_of es).entries i zero_entry)
       slot i h =
           ⊎_elim
-          (λ l. subst FitsEntry (ap (λ (xs : List Entry). entry_at xs (suc i)) (sym live_log) ∙ entry_at_slot (log_of es) i l) (each-Fits (suc i)))
+          (λ l. subst FitsEntry (ap (λ (xs : List Entry). entry_at xs (suc i)) (sym live_log) ∙ entry_at_slot (log_of es) i l) (each_fits (suc i)))
           (λ l. rw ((tidy_log_of es room).rest i l) (record { term = omega arith; key = omega arith; value = omega arith; time = record { p = omega arith; l = omega arith } }))
           (lt_or_le i (length es))
 

@@ -72,7 +72,7 @@ pub record FirstBad (ls : List (List ℕ)) : Type 0 where
   pub reads : Reads before records
   pub none : read_record bad ≡ NoRecord
 
--- ---- byte by byte, which by `listed-pieces` comes to the same
+-- ---- byte by byte, which by `listed_pieces` comes to the same
 
 abbrev pub new_listing : Listing
 new_listing = record { list = new_list; reader = fresh_reader }

@@ -45,8 +45,8 @@ other a k = cond (ltb k a) k (suc k)
 
 -- the numbers up to k in turn: the one so far stays where it holds its own against the next; so the lowest of the best
 unfoldable pub best : (ℕ → ℕ → Bool) → ℕ → ℕ
-best holdsOwn zero = 0
-best holdsOwn (suc k) = cond (holdsOwn (best holdsOwn k) (suc k)) (best holdsOwn k) (suc k)
+best holds_own zero = 0
+best holds_own (suc k) = cond (holds_own (best holds_own k) (suc k)) (best holds_own k) (suc k)
 
 -- the set of the numbers from j on that pass, n of them, with j as bit 0
 unfoldable pub set_from : (ℕ → Bool) → ℕ → ℕ → ℕ

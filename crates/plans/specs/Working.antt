@@ -1,5 +1,5 @@
 -- How the frames are made: the steps are tried on the record, one after the other, until one is refused. Nobody has to believe this: by
--- `work-made` it gives what `planned_of` says. Assumes nothing.
+-- `work_made` it gives what `planned_of` says. Assumes nothing.
 use Rattle.std.specs.Prelude.{Bool, cond, ◌||◌, List, [], ◌∷◌, ℕ, leb}
 use Rattle.base.specs.Numbers.{every}
 use Rattle.clock.specs.Times.{zero_time}

@@ -1,5 +1,5 @@
 -- What servers hold along a run: the entries that a server has appended or taken over and not since lost. From a log nothing can be dropped yet, so that by
--- `holds-logs` it is what the logs have. Assumes nothing.
+-- `holds_logs` it is what the logs have. Assumes nothing.
 use Rattle.std.specs.Prelude.{◌≡◌, cond, List, [], ◌∷◌, ◌++◌, ℕ, ◌<◌, eqb}
 use Rattle.server_log.specs.declared.Entry.{Entry}
 use Rattle.base.specs.Lists.{joined_at}

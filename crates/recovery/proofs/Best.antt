@@ -21,23 +21,23 @@ use Rattle.plans.specs.Moves.{best}
 use Rattle.plans.specs.Plan.{may_lead, not_older}
 
 -- how numbers are compared: each with itself, one with the other where not the other with it, and so on from one to the next
-pub record Order (holdsOwn : ℕ → ℕ → Bool) : Type 0 where
-  pub itself : (i : ℕ) → holdsOwn i i ≡ true
-  pub total : (i j : ℕ) → holdsOwn i j ≡ false → holdsOwn j i ≡ true
-  pub along : (i j k : ℕ) → holdsOwn i j ≡ true → holdsOwn j k ≡ true → holdsOwn i k ≡ true
+pub record Order (holds_own : ℕ → ℕ → Bool) : Type 0 where
+  pub itself : (i : ℕ) → holds_own i i ≡ true
+  pub total : (i j : ℕ) → holds_own i j ≡ false → holds_own j i ≡ true
+  pub along : (i j k : ℕ) → holds_own i j ≡ true → holds_own j k ≡ true → holds_own i k ≡ true
 
-module _ {holdsOwn : ℕ → ℕ → Bool} (o : Order holdsOwn) where
-  pub best_of : (k i : ℕ) → i ≤ k → holdsOwn (best holdsOwn k) i ≡ true
+module _ {holds_own : ℕ → ℕ → Bool} (o : Order holds_own) where
+  pub best_of : (k i : ℕ) → i ≤ k → holds_own (best holds_own k) i ≡ true
   unfolding best
   best_of zero i l = let z : i ≡ 0 = omega arith in rw z (o.itself 0)
-  best_of (suc k) i l = go (holdsOwn (best holdsOwn k) (suc k)) refl (best_of k i) (eq-or-lt_of_le l)
+  best_of (suc k) i l = go (holds_own (best holds_own k) (suc k)) refl (best_of k i) (eq-or-lt_of_le l)
     where
-      go : (b : Bool) → holdsOwn (best holdsOwn k) (suc k) ≡ b → (i ≤ k → holdsOwn (best holdsOwn k) i ≡ true) → (i ≡ suc k) ⊎ (i < suc k)
-          → holdsOwn (cond b (best holdsOwn k) (suc k)) i ≡ true
+      go : (b : Bool) → holds_own (best holds_own k) (suc k) ≡ b → (i ≤ k → holds_own (best holds_own k) i ≡ true) → (i ≡ suc k) ⊎ (i < suc k)
+          → holds_own (cond b (best holds_own k) (suc k)) i ≡ true
       go true e ih (inl q) = rw q e
       go true e ih (inr h) = ih (le_of_suc-le-suc h)
       go false e ih (inl q) = rw q (o.itself (suc k))
-      go false e ih (inr h) = o.along (suc k) (best holdsOwn k) i (o.total _ _ e) (ih (le_of_suc-le-suc h))
+      go false e ih (inr h) = o.along (suc k) (best holds_own k) i (o.total _ _ e) (ih (le_of_suc-le-suc h))
 
 -- ---- by term
 

@@ -1,5 +1,5 @@
 -- A text byte by byte: a reader that keeps at most one frame's characters, and what it says on the way. Nobody has to believe this:
--- by `any-pieces` and `any-pieces-record` it comes to the answers and the record of `Texts`. Assumes nothing.
+-- by `any_pieces` and `any_pieces_record` it comes to the answers and the record of `Texts`. Assumes nothing.
 use Rattle.std.specs.Prelude.{ℕ, suc, ◌+◌, ◌-◌, ◌*◌, true, false, cond, List, [], ◌∷◌, ◌++◌, ltb, eqb, length, get_or, take, drop}
 use Rattle.cluster.specs.declared.Cluster.{Cluster}
 use Rattle.frames.specs.Layout.{step_bytes}

@@ -1,4 +1,4 @@
--- What a line is to do to the record: nothing, one server, or the whole record, where the step may send a report to another. Nobody has to believe this: by `plan-does` a plan
+-- What a line is to do to the record: nothing, one server, or the whole record, where the step may send a report to another. Nobody has to believe this: by `plan_does` a plan
 -- that is carried out gives what `Texts` says. Assumes nothing.
 use Rattle.std.specs.Prelude.{ℕ, Bool, cond, ◌||◌, eqb, ltb}
 use Rattle.cluster.specs.declared.Cluster.{Cluster}

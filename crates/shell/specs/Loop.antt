@@ -1,5 +1,5 @@
 -- The program's loop: what a piece does, and the pieces that a whole input was. Nobody has to believe this: what `pour` and `turn` do follows, and
--- `any-pieces` of `replay` says what pieces come to. Assumes nothing.
+-- `any_pieces` of `replay` says what pieces come to. Assumes nothing.
 use Rattle.std.specs.Prelude.{◌≡◌, List, Bool, true, cond, ◌&&◌, ℕ}
 use Rattle.cluster.specs.declared.Cluster.{Cluster}
 use Rattle.replay.specs.declared.Session.{Session}

@@ -1,5 +1,5 @@
 -- Loading and saving: what reading on does with what was read, and the record that a text leads to. Nobody has to believe this: the texts
--- that are loaded are the ones that `loads-exactly` says. Assumes nothing.
+-- that are loaded are the ones that `loads_exactly` says. Assumes nothing.
 use Rattle.std.specs.Prelude.{◌≡◌, List, [], ◌++◌, Bool, true, false, cond, ℕ, ltb, length, ℤ}
 use Rattle.cluster.specs.declared.Cluster.{Cluster}
 use Rattle.cluster.specs.Servers.{zero_cluster}

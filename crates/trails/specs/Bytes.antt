@@ -1,4 +1,4 @@
--- The same byte by byte, with what is kept of a line: what is in the buffer after a line, and where a run is. Nobody has to believe this: by `follows-trace` it
+-- The same byte by byte, with what is kept of a line: what is in the buffer after a line, and where a run is. Nobody has to believe this: by `follows_trace` it
 -- comes to the trace of the text. Assumes nothing.
 use Rattle.std.specs.Prelude.{◌≡◌, cond, List, [], ◌∷◌, ◌++◌, ℕ, ◌+◌, ◌≤◌, eqb, ltb, length}
 use Rattle.cluster.specs.declared.Cluster.{Cluster}

@@ -1,5 +1,5 @@
 -- The loop of a run that is traced: what a piece and a turn do to it, the pieces that a whole input was, and the record that is left. Nobody has to believe
--- this: by `follows-trace` the pieces, as one text, have the trace that is shown on the way. Assumes nothing.
+-- this: by `follows_trace` the pieces, as one text, have the trace that is shown on the way. Assumes nothing.
 use Rattle.std.specs.Prelude.{◌≡◌, Bool, true, cond, List, ℕ}
 use Rattle.cluster.specs.declared.Cluster.{Cluster}
 use Rattle.lines.specs.declared.End.{End}
