@@ -153,7 +153,7 @@ def main(argv):
         return 0
     # A camel-case word is nobody's but the repository's.
     camel = {n: t for names in turned.values() for n, t in names.items() if re.search(r"[a-z0-9][A-Z]", n.split("-")[0]) and n[0].islower()}
-    anywhere = {n: t for names in turned.values() for n, t in names.items()}
+    anywhere = {n: new_name(n) for names in own.values() for n in names if "-" in n}
     trouble = []
     fields = {n: new_name(n) for n in inner if new_name(n) != n}
 
