@@ -1,10 +1,9 @@
 -- What the type of a telling gives: every number fits its bytes. Assumes nothing.
-use Rattle.std.specs.Prelude.{◌≤◌}
+use Rattle.std.specs.Prelude.{◌≤◌, Ok, Err}
 use Rattle.clock.specs.Times.{limit}
 use Rattle.clock.specs.Ranges.{FitsTime}
-use Rattle.steps.specs.declared.Telling.{Telling}
-use Rattle.steps.specs.declared.Telling.TheVariants.{Numbers, Refusing}
+use Rattle.steps.specs.Answers.{Telling}
 
 abbrev pub FitsTelling : Telling → Type 0
-FitsTelling (Numbers number term time) = (number ≤ limit) × (term ≤ limit) × FitsTime time
-FitsTelling (Refusing r) = Unit {0}
+FitsTelling (Ok n) = (n.number ≤ limit) × (n.term ≤ limit) × FitsTime n.time
+FitsTelling (Err r) = Unit {0}

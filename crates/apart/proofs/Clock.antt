@@ -1,7 +1,7 @@
 -- What the clock's definitions give where a wrong program differs. Assumes nothing.
 use mathlib.Core.Path.{◌≡◌, refl}
 use mathlib.Core.Bool.{true, false}
-use Rattle.clock.specs.declared.Ticked.TheVariants.{To, AtLimit}
+use Rattle.std.specs.declared.option.Option.TheVariants.{Some, None}
 use Rattle.clock.specs.Times.{zero_time, is_before, same_time, later_of, tick_of}
 use Rattle.apart.proofs.Things.{at}
 
@@ -32,10 +32,10 @@ pub later_takes_the_second : later_of (at 2 0) (at 1 0) ≡ at 2 0
 unfolding is_before later_of
 later_takes_the_second = refl
 
-pub ticks_at_its_own_p : tick_of 2 (at 2 0) ≡ To (at 2 1)
+pub ticks_at_its_own_p : tick_of 2 (at 2 0) ≡ Some (at 2 1)
 unfolding tick_of
 ticks_at_its_own_p = refl
 
-pub tick_lets_l_go_round : tick_of 2 (at 2 65535) ≡ AtLimit
+pub tick_lets_l_go_round : tick_of 2 (at 2 65535) ≡ None
 unfolding tick_of
 tick_lets_l_go_round = refl

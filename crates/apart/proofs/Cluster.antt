@@ -1,4 +1,5 @@
 -- What the cluster's definitions give where a wrong program differs. Assumes nothing.
+use Rattle.std.proofs.Common.{Some}
 use mathlib.Core.Path.{◌≡◌, refl}
 use mathlib.Core.Bool.{true, false}
 use mathlib.Core.List.{[], ◌∷◌}
@@ -112,7 +113,7 @@ pub server_ok_counts_every_server : server_ok 2 0 2 fresh_server ≡ false
 unfolding rows_ok row_ok latest_value entry_at highest every same_time same_entry rest_zero is_empty_log zero_ok server_ok
 server_ok_counts_every_server = refl
 
-pub server_ok_without_its_mail : server_ok 2 0 0 (with_mail fresh_server (with_source zero_mail 1)) ≡ false
+pub server_ok_without_its_mail : server_ok 2 0 0 (with_mail fresh_server (with_source zero_mail (Some 0))) ≡ false
 unfolding rows_ok row_ok latest_value highest every is_before same_time same_entry entry_at in_order rest_zero log_ok is_unused is_used note_ok notes_ok slot_ok queue_ok source_ok mail_ok numbers_ok member counted_ok server_ok
 server_ok_without_its_mail = refl
 

@@ -9,8 +9,7 @@ use Rattle.steps.specs.declared.Refusal.TheVariants.{NoSuchEntry}
 use Rattle.steps.specs.declared.Step.TheVariants.{Writes, MajorityRead, ClocksAgree}
 use Rattle.hex_text.specs.Digits.{digit_of, char_of, byte_of}
 use Rattle.hex_text.specs.Lines.{all_hex}
-use Rattle.frames.specs.declared.ReadStep.TheVariants as R
-use Rattle.answers.specs.declared.ReadAnswer.TheVariants.{NoFrame}
+use Rattle.std.proofs.Common.{None}
 use Rattle.words.specs.Words.{high_of, low_of, word_of, framed}
 use Rattle.frames.specs.Layout.{bytes_of_frame, frame_of}
 use Rattle.frames.specs.Kinds.{step_of_frame, is_clean}
@@ -33,22 +32,22 @@ byte_of_255_values = (refl, refl, refl)
 -- the characters 0, 1, 3, a, b, c and f are 48, 49, 51, 97, 98, 99 and 102; the key stands at the characters 8 and 9, the number at 10 to 13
 
 -- a whole frame and one more character
-pub long_line_is_taken : read_step (write_step ClocksAgree ++ (48 ∷ [])) ≡ R.NoFrame
+pub long_line_is_taken : read_step (write_step ClocksAgree ++ (48 ∷ [])) ≡ None
 unfolding char_of high_of low_of bytes_of_frame framed
 long_line_is_taken = refl
 
 -- 11 and then 0
-pub kind_17_is_taken : read_step (49 ∷ 49 ∷ replicate 24 48) ≡ R.NoFrame
+pub kind_17_is_taken : read_step (49 ∷ 49 ∷ replicate 24 48) ≡ None
 unfolding every digit_of byte_of all_hex high_of low_of word_of framed bytes_of_frame frame_of step_of_frame is_clean step_in
 kind_17_is_taken = refl
 
 -- kind 0c, key 01
-pub mask_off_by_a_byte : read_step (48 ∷ 99 ∷ (replicate 7 48 ++ (49 ∷ replicate 16 48))) ≡ R.NoFrame
+pub mask_off_by_a_byte : read_step (48 ∷ 99 ∷ (replicate 7 48 ++ (49 ∷ replicate 16 48))) ≡ None
 unfolding every digit_of byte_of all_hex high_of low_of framed bytes_of_frame step_of_frame is_clean step_in
 mask_off_by_a_byte = refl
 
 -- kind 0f, set 01
-pub kind_15_uses_a_set : read_step (48 ∷ 102 ∷ (replicate 5 48 ++ (49 ∷ replicate 18 48))) ≡ R.NoFrame
+pub kind_15_uses_a_set : read_step (48 ∷ 102 ∷ (replicate 5 48 ++ (49 ∷ replicate 18 48))) ≡ None
 unfolding every digit_of byte_of all_hex high_of low_of framed bytes_of_frame step_of_frame is_clean step_in
 kind_15_uses_a_set = refl
 
@@ -71,11 +70,11 @@ pub answer_drops_the_term :
 unfolding char_of high_of low_of answer_frame
 answer_drops_the_term = refl
 
-pub answer_of_refusal_13 : read_answer (48 ∷ 100 ∷ replicate 16 48) ≡ NoFrame
+pub answer_of_refusal_13 : read_answer (48 ∷ 100 ∷ replicate 16 48) ≡ None
 unfolding every same_time digit_of byte_of all_hex word_of framed refusal_of telling_by telling_in
 answer_of_refusal_13 = refl
 
 -- 03 0000 0001 0000 0000
-pub refusal_with_a_term : read_answer (48 ∷ 51 ∷ (replicate 7 48 ++ (49 ∷ replicate 8 48))) ≡ NoFrame
+pub refusal_with_a_term : read_answer (48 ∷ 51 ∷ (replicate 7 48 ++ (49 ∷ replicate 8 48))) ≡ None
 unfolding every same_time digit_of byte_of all_hex word_of framed telling_by telling_in
 refusal_with_a_term = refl

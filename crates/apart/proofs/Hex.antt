@@ -6,6 +6,8 @@ use lib.ListN.{replicate}
 use Rattle.base.specs.Numbers.{every}
 use Rattle.hex_text.specs.Digits.{digit_of, char_of, byte_of}
 use Rattle.hex_text.specs.Lines.{all_hex, bytes_of, hex_of, over}
+use Rattle.std.proofs.Common.{Some, None}
+use Rattle.words.specs.Words.{framed}
 
 -- the characters 0, 1, 2, A and g are 48, 49, 50, 65 and 103
 
@@ -56,3 +58,16 @@ enhex_low_digit_first = refl
 pub enhex_wants_room : over (hex_of (1 ∷ [])) (0 ∷ []) ≡ 48 ∷ []
 unfolding char_of
 enhex_wants_room = refl
+
+-- ---- lines of so many bytes, in words
+
+pub reads_a_line_of_odd_length : framed 1 Some None (48 ∷ 49 ∷ 50 ∷ []) ≡ None
+unfolding framed
+reads_a_line_of_odd_length = refl
+
+pub what_a_line_lacks_is_1 : over (bytes_of []) (replicate 1 0) ≡ 0 ∷ []
+what_a_line_lacks_is_1 = refl
+
+pub writes_no_bytes : over (hex_of (171 ∷ [])) (replicate 2 0) ≡ 97 ∷ 98 ∷ []
+unfolding char_of
+writes_no_bytes = refl

@@ -3,6 +3,7 @@ use mathlib.Core.Path.{◌≡◌, refl}
 use mathlib.Core.Bool.{true, false}
 use mathlib.Core.List.{[], ◌∷◌}
 use Prim.Native.Nat.{ℕ}
+use lib.ListN.{replicate}
 use Rattle.base.specs.Numbers.{every}
 use Rattle.clock.specs.declared.Time.{Time}
 use Rattle.clock.specs.Times.{is_before, same_time}
@@ -12,9 +13,8 @@ use Rattle.steps.specs.declared.Refusal.TheVariants.{IllFormed}
 use Rattle.histories.specs.declared.PhoneRecord.{PhoneRecord}
 use Rattle.histories.specs.declared.Checked.TheVariants.{Breaks, Refused}
 use Rattle.histories.specs.Committed.{lent, entries_on, same_lengths, could_hold}
-use Rattle.histories.specs.Rules.{no_record, record_in_range, same_write, readable, write_obeys, not_before}
+use Rattle.histories.specs.Rules.{no_record, record_in_range, same_write, readable, write_obeys, not_before, keeps_order}
 use Rattle.histories.specs.Checking.{first_breaker, list_ok, checked_of, check_of}
-use Rattle.histories.specs.Walking.{start_of, fits_on, looked_at}
 use Rattle.apart.proofs.Things.{at, x, z}
 
 -- a phone's record of this session and kind, for key 5 and value 41
@@ -37,8 +37,8 @@ pub order_across_sessions : not_before (seen 1 11 (at 2 0)) (seen 2 11 (at 1 0))
 unfolding is_before not_before
 order_across_sessions = refl
 
-pub order_by_the_last_record_only : (looked_at [] (looked_at [] (start_of (lent [] [] [] [] [])) (seen 1 11 (at 1 0))) (seen 1 11 (at 1 0))).count ≡ 2
-unfolding looked_at
+pub order_by_the_last_record_only : keeps_order (seen 1 11 (at 2 0) ∷ seen 1 11 (at 1 0) ∷ []) (seen 1 11 (at 1 0)) ≡ false
+unfolding every is_before not_before keeps_order
 order_by_the_last_record_only = refl
 
 pub write_by_its_value_alone : same_write x (record { session = 1; kind = 6; key = 6; value = 41; position = 1; time = at 9 9 }) ≡ false
@@ -57,10 +57,10 @@ pub the_last_breaker_named : first_breaker 2 (λ i. false) ≡ Breaks 0
 unfolding first_breaker
 the_last_breaker_named = refl
 
-pub records_256_refused : fits_on 255 (seen 1 6 (at 1 0)) ≡ true
-unfolding record_in_range fits_on
+pub records_256_refused : list_ok (replicate 256 (seen 1 6 (at 1 0))) 256 ≡ true
+unfolding every record_in_range list_ok
 records_256_refused = refl
 
-pub records_257_accepted : fits_on 256 (seen 1 6 (at 1 0)) ≡ false
-unfolding fits_on
+pub records_257_accepted : list_ok (replicate 257 (seen 1 6 (at 1 0))) 257 ≡ false
+unfolding list_ok
 records_257_accepted = refl

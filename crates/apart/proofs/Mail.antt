@@ -1,4 +1,5 @@
 -- What mail's definitions give where a wrong program differs. Assumes nothing.
+use Rattle.std.proofs.Common.{Some}
 use mathlib.Core.Path.{◌≡◌, refl}
 use mathlib.Core.Bool.{true, false}
 use mathlib.Core.List.{[], ◌∷◌, ◌++◌}
@@ -81,19 +82,19 @@ pub taken_drops_all : (taken (holding (f ∷ g ∷ []))).queue.len ≡ 1
 unfolding oldest_taken
 taken_drops_all = refl
 
-pub taken_forgets_the_source : (taken (with_source zero_mail 2)).source ≡ 2
+pub taken_forgets_the_source : (taken (with_source zero_mail (Some 1))).source ≡ Some 1
 taken_forgets_the_source = refl
 
-pub emptied_forgets_the_source : (emptied (with_source zero_mail 2)).source ≡ 2
+pub emptied_forgets_the_source : (emptied (with_source zero_mail (Some 1))).source ≡ Some 1
 emptied_forgets_the_source = refl
 
 pub emptied_keeps_the_notes : note_at (emptied (noting (note_of f ∷ []))) 0 ≡ zero_note
 emptied_keeps_the_notes = refl
 
-pub source_is_never_set : (with_source zero_mail 2).source ≡ 2
+pub source_is_never_set : (with_source zero_mail (Some 1)).source ≡ Some 1
 source_is_never_set = refl
 
-pub source_empties_the_queue : (with_source (holding (f ∷ [])) 2).queue.len ≡ 1
+pub source_empties_the_queue : (with_source (holding (f ∷ [])) (Some 1)).queue.len ≡ 1
 source_empties_the_queue = refl
 
 pub unused_of_length_1 : is_unused (note 0 0 1) ≡ false
@@ -158,11 +159,11 @@ pub queue_of_length_8 : queue_ok 2 (queue (replicate 8 f)) ≡ true
 unfolding every is_used slot_ok queue_ok
 queue_of_length_8 = refl
 
-pub own_source_allowed : source_ok 2 0 1 ≡ false
+pub own_source_allowed : source_ok 2 0 (Some 0) ≡ false
 unfolding source_ok
 own_source_allowed = refl
 
-pub source_past_the_count : source_ok 2 0 3 ≡ false
+pub source_past_the_count : source_ok 2 0 (Some 2) ≡ false
 unfolding source_ok
 source_past_the_count = refl
 
@@ -170,6 +171,6 @@ pub mail_ok_without_the_queue : mail_ok 2 0 (with_queue zero_mail dirty) ≡ fal
 unfolding every is_unused is_used note_ok notes_ok slot_ok queue_ok mail_ok
 mail_ok_without_the_queue = refl
 
-pub mail_ok_without_the_source : mail_ok 2 0 (with_source zero_mail 1) ≡ false
+pub mail_ok_without_the_source : mail_ok 2 0 (with_source zero_mail (Some 0)) ≡ false
 unfolding every is_unused is_used note_ok notes_ok slot_ok queue_ok source_ok mail_ok
 mail_ok_without_the_source = refl

@@ -1,4 +1,5 @@
 -- What the definitions of kinds 3, 4 and 5 give where a wrong program differs. Assumes nothing.
+use Rattle.std.proofs.Common.{Some}
 use mathlib.Core.Path.{◌≡◌, refl}
 use mathlib.Core.Bool.{true, false}
 use mathlib.Core.List.{[], ◌∷◌}
@@ -9,9 +10,9 @@ use Rattle.server_log.specs.Entries.{same_entry, entry_at, equal_at, common_begi
 use Rattle.server_log.specs.Rows.{zero_row, value_for, latest_after}
 use Rattle.server_log.specs.Logs.{empty_log}
 use Rattle.cluster.specs.Servers.{with_mail, fresh_server}
-use Rattle.steps.specs.declared.Sends.TheVariants.{To}
 use Rattle.steps.specs.declared.Answer.TheVariants.{Reached, Refused}
 use Rattle.steps.specs.declared.Refusal.TheVariants.{ConditionUnmet, BelowCommitPoint}
+use Rattle.steps.specs.Answers.{report_to}
 use Rattle.pairs.specs.Hears.{takes_commit, stays_primary, heard_of, hears_of}
 use Rattle.pairs.specs.Reports.{sent_of}
 use Rattle.pairs.specs.Pulls.{may_join, took_of, pulls_of}
@@ -65,14 +66,14 @@ pulls_gives_b = refl
 pub pulls_from_no_longer_a_log : (pulls_of (holder 1 (x ∷ [])) (holder 1 (x ∷ [])) 0 1).answer ≡ Refused ConditionUnmet
 pulls_from_no_longer_a_log = refl
 
-pub leaves_its_source : (sent_of 0 1 fresh_server).server.mail.source ≡ 2
+pub leaves_its_source : (sent_of 0 1 fresh_server).server.mail.source ≡ Some 1
 leaves_its_source = refl
 
-pub reports_its_term_for_its_last : (sent_of 0 1 (holder 2 (x ∷ []))).sends ≡ To 1 (report 0 2 1 1)
+pub reports_its_term_for_its_last : (sent_of 0 1 (holder 2 (x ∷ []))).sends ≡ report_to 1 (report 0 2 1 1)
 unfolding entry_at
 reports_its_term_for_its_last = refl
 
-pub reports_what_it_had_before : (pulls_of fresh_server (holder 1 (x ∷ [])) 0 1).sends ≡ To 1 (report 0 1 1 1)
+pub reports_what_it_had_before : (pulls_of fresh_server (holder 1 (x ∷ [])) 0 1).sends ≡ report_to 1 (report 0 1 1 1)
 unfolding entry_at took_of
 reports_what_it_had_before = refl
 
@@ -80,7 +81,7 @@ pub a_full_queue_refuses_the_pull : (pulls_of fresh_server (with_mail (holder 1 
 unfolding took_of
 a_full_queue_refuses_the_pull = refl
 
-pub rolls_back_and_reports_what_it_had : (rolls_back_of (holder 1 (x ∷ [])) (holder 2 (u ∷ [])) 0 1).sends ≡ To 1 (report 0 2 2 1)
+pub rolls_back_and_reports_what_it_had : (rolls_back_of (holder 1 (x ∷ [])) (holder 2 (u ∷ [])) 0 1).sends ≡ report_to 1 (report 0 2 2 1)
 unfolding same_entry entry_at common_beginning took_of
 rolls_back_and_reports_what_it_had = refl
 

@@ -21,16 +21,15 @@ use Rattle.pairs.specs.Hears.{heard_of}
 use Rattle.rules.specs.Rules.{delivered, row_of, core_of, step_of}
 use Rattle.hex_text.specs.Digits.{digit_of, char_of, byte_of}
 use Rattle.hex_text.specs.Lines.{all_hex}
-use Rattle.frames.specs.declared.ReadStep.TheVariants as R
+use Rattle.std.proofs.Common.{Some, None, Ok, Err}
 use Rattle.words.specs.Words.{high_of, low_of, word_of, framed}
 use Rattle.frames.specs.Layout.{bytes_of_frame, frame_of}
 use Rattle.frames.specs.Kinds.{step_of_frame, is_clean}
 use Rattle.frames.specs.Steps.{write_step, step_in, read_step}
-use Rattle.lines.specs.declared.Reader.{Reader}
-use Rattle.replay.specs.declared.Plan.TheVariants.{Refuse, Record}
+use Rattle.replay.specs.declared.Plan.TheVariants.{Record}
 use Rattle.lines.specs.Texts.{lines}
 use Rattle.replay.specs.Texts.{respond, answer_to, line_of, answers}
-use Rattle.lines.specs.Readers.{fresh_reader, line_held, push_of, is_empty, reader_after}
+use Rattle.lines.specs.Readers.{Reader, fresh_reader, line_held, push_of, is_empty, reader_after}
 use Rattle.lines.specs.Folds.{byte_after}
 use Rattle.replay.specs.Pieces.{begun, after, said, fed_of, finish_of}
 use Rattle.replay.specs.Plans.{place_of, plan_of}
@@ -67,19 +66,19 @@ pub a_line_feed_closes : reader_after (reader (replicate 26 48) 3 true) 10 ≡ f
 unfolding reader_after
 a_line_feed_closes = refl
 
-pub held_reads_a_long_line : read_step (line_held (reader (write_step ClocksAgree) 26 true)) ≡ R.NoFrame
+pub held_reads_a_long_line : read_step (line_held (reader (write_step ClocksAgree) 26 true)) ≡ None
 unfolding framed line_held
 held_reads_a_long_line = refl
 
-pub held_fills_a_short_line : read_step (line_held (reader (write_step ClocksAgree) 25 false)) ≡ R.NoFrame
+pub held_fills_a_short_line : read_step (line_held (reader (write_step ClocksAgree) 25 false)) ≡ None
 unfolding bytes_of_frame framed line_held
 held_fills_a_short_line = refl
 
-pub plan_gives_2_before_1 : plan_of 0 false R.NoFrame ≡ Refuse NotAFrame
+pub plan_gives_2_before_1 : plan_of 0 false None ≡ Err NotAFrame
 unfolding plan_of
 plan_gives_2_before_1 = refl
 
-pub plan_lets_a_start_look : plan_of 0 false (R.Step (Start 2 0)) ≡ Record (Start 2 0)
+pub plan_lets_a_start_look : plan_of 0 false (Some (Start 2 0)) ≡ Ok (Record (Start 2 0))
 unfolding place_of plan_of
 plan_lets_a_start_look = refl
 
@@ -97,11 +96,11 @@ rest_without_line_feed_is_dropped = refl
 pub empty_by_the_fill_alone : is_empty (reader (replicate 26 0) 0 true) ≡ false
 empty_by_the_fill_alone = refl
 
-pub responds_2_to_a_bad_line : (respond zero_cluster R.NoFrame).answer ≡ Refused NotAFrame
+pub responds_2_to_a_bad_line : (respond zero_cluster None).answer ≡ Refused NotAFrame
 unfolding respond
 responds_2_to_a_bad_line = refl
 
-pub responds_without_the_test : (respond zero_cluster (R.Step ClocksAgree)).answer ≡ Refused IllFormed
+pub responds_without_the_test : (respond zero_cluster (Some ClocksAgree)).answer ≡ Refused IllFormed
 unfolding size_ok well_formed step_of respond
 responds_without_the_test = refl
 

@@ -14,8 +14,8 @@ use Rattle.cluster.specs.Sets.{member, is_within, is_apart}
 use Rattle.cluster.specs.WellFormed.{size_ok, well_formed}
 use Rattle.steps.specs.declared.Answer.TheVariants as A
 use Rattle.steps.specs.declared.Refusal.TheVariants.{IllFormed, OutOfRange}
-use Rattle.steps.specs.declared.Sends.TheVariants as S
 use Rattle.steps.specs.declared.Step.TheVariants.{Start, Elect, StepDown, Hears, WallClock, Restarts, LocalRead, ClocksAgree}
+use Rattle.steps.specs.Answers.{report_to}
 use Rattle.pairs.specs.Hears.{heard_of}
 use Rattle.wholes.specs.Elects.{not_behind, may_vote, all_may_vote, are_voters}
 use Rattle.rules.specs.Rules.{delivered, put_back, row_of, core_of, is_start, step_of}
@@ -44,15 +44,15 @@ pub single_puts_back_at_0 : (server_at (single_of F2 1 (WallClock 1)).cluster 0)
 unfolding each_from started_of delivered one_of single_of
 single_puts_back_at_0 = refl
 
-pub delivers_nothing : (server_at (delivered F2 (S.To 1 f)) 1).mail.queue.len ≡ 1
+pub delivers_nothing : (server_at (delivered F2 (report_to 1 f)) 1).mail.queue.len ≡ 1
 unfolding each_from queued started_of delivered
 delivers_nothing = refl
 
-pub delivers_to_0 : (server_at (delivered F2 (S.To 1 f)) 0).mail.queue.len ≡ 0
+pub delivers_to_0 : (server_at (delivered F2 (report_to 1 f)) 0).mail.queue.len ≡ 0
 unfolding each_from queued started_of delivered
 delivers_to_0 = refl
 
-pub puts_back_and_sends_nothing : (server_at (put_back F2 0 (record { server = fresh_server; answer = A.Done; sends = S.To 1 f })).cluster 1).mail.queue.len ≡ 1
+pub puts_back_and_sends_nothing : (server_at (put_back F2 0 (record { server = fresh_server; answer = A.Done; sends = report_to 1 f })).cluster 1).mail.queue.len ≡ 1
 unfolding each_from queued started_of delivered
 puts_back_and_sends_nothing = refl
 

@@ -1,4 +1,5 @@
 -- What the definitions of kinds 2, 6, 8, 9, 14 and 16 give where a wrong program differs. Assumes nothing.
+use Rattle.std.proofs.Common.{None, Some}
 use mathlib.Core.Path.{◌≡◌, refl}
 use mathlib.Core.Bool.{true, false}
 use mathlib.Core.List.{[], ◌∷◌}
@@ -14,10 +15,10 @@ use Rattle.mail.specs.Queues.{oldest_taken}
 use Rattle.mail.specs.Mails.{zero_mail, note_at, with_source, noted}
 use Rattle.cluster.specs.declared.Server.{Server}
 use Rattle.cluster.specs.Servers.{with_mail, fresh_server}
-use Rattle.steps.specs.declared.Sends.TheVariants.{Nothing, To}
 use Rattle.steps.specs.declared.Stepped.{Stepped}
 use Rattle.steps.specs.declared.Answer.TheVariants.{Entry, Refused}
 use Rattle.steps.specs.declared.Refusal.TheVariants.{OutOfRange, WrongRole, ConditionUnmet, LogFull, AtLimit, ClockAhead}
+use Rattle.steps.specs.Answers.{report_to}
 use Rattle.singles.specs.StepsDown.{steps_down_of}
 use Rattle.singles.specs.WallClock.{wall_clock_of}
 use Rattle.singles.specs.Restarts.{restarts_of}
@@ -46,7 +47,7 @@ pub restarts_keeps_the_time : (restarts_of (timed (at 5 3))).server.head.time �
 unfolding entry_at
 restarts_keeps_the_time = refl
 
-pub restarts_with_its_source : (restarts_of (with_mail fresh_server (with_source zero_mail 2))).server.mail.source ≡ 0
+pub restarts_with_its_source : (restarts_of (with_mail fresh_server (with_source zero_mail (Some 1)))).server.mail.source ≡ None
 restarts_with_its_source = refl
 
 pub restarts_with_its_notes : note_at (restarts_of (with_mail fresh_server (noting (note_of f ∷ [])))).server.mail 0 ≡ zero_note
@@ -118,13 +119,13 @@ nothing_with_value_1 = refl
 
 -- this server with one report in its queue, and server 1 for its source
 abbrev waiting : Server → Report → Server
-waiting s r = with_mail s (with_source (holding (r ∷ [])) 2)
+waiting s r = with_mail s (with_source (holding (r ∷ [])) (Some 1))
 
-pub a_primary_forwards : forwards (waiting (leader []) g) ≡ Nothing
+pub a_primary_forwards : forwards (waiting (leader []) g) ≡ None
 unfolding forwards
 a_primary_forwards = refl
 
-pub forwards_one_further : forwards (waiting fresh_server g) ≡ To 1 g
+pub forwards_one_further : forwards (waiting fresh_server g) ≡ report_to 1 g
 unfolding forwards
 forwards_one_further = refl
 

@@ -3,9 +3,9 @@ use mathlib.Core.Path.{◌≡◌, refl}
 use mathlib.Core.List.{[]}
 use Rattle.cluster.specs.Servers.{fresh_server, zero_cluster}
 use Rattle.steps.specs.declared.Answer.TheVariants as A
-use Rattle.steps.specs.declared.Refusal.TheVariants.{WrongRole}
-use Rattle.steps.specs.declared.Telling.TheVariants as T
-use Rattle.steps.specs.Answers.{refusing, refusing_all, number_of, telling_of}
+use Rattle.steps.specs.declared.Refusal.TheVariants.{WrongRole, ClockAhead, Retired}
+use Rattle.steps.specs.Refusals.{refusal_number}
+use Rattle.steps.specs.Answers.{answering, refusing, refusing_all, number_of, telling_of, numbers}
 use Rattle.apart.proofs.Things.{at, holder, F2}
 
 pub refuse_gives_a_fresh_server : (refusing (holder 1 []) WrongRole).server ≡ holder 1 []
@@ -26,8 +26,20 @@ number_keeps_the_low_byte = refl
 pub number_stops_at_the_limit : number_of 65536 ≡ 0
 number_stops_at_the_limit = refl
 
-pub told_puts_the_term_into_the_number : telling_of (A.Elected 1) ≡ T.Numbers 0 1 (at 0 0)
+pub told_puts_the_term_into_the_number : telling_of (A.Elected 1) ≡ numbers 0 1 (at 0 0)
 told_puts_the_term_into_the_number = refl
 
-pub told_forgets_the_time : telling_of (A.Entry 1 1 (at 1 0)) ≡ T.Numbers 1 1 (at 1 0)
+pub told_forgets_the_time : telling_of (A.Entry 1 1 (at 1 0)) ≡ numbers 1 1 (at 1 0)
 told_forgets_the_time = refl
+
+pub answered_says_done_always : (answering fresh_server (A.Reached 1)).answer ≡ A.Reached 1
+answered_says_done_always = refl
+
+pub answered_gives_a_fresh_server : (answering (holder 1 []) A.Done).server ≡ holder 1 []
+answered_gives_a_fresh_server = refl
+
+pub eleven_is_twelve : refusal_number ClockAhead ≡ 11
+eleven_is_twelve = refl
+
+pub twelve_is_no_refusal : refusal_number Retired ≡ 12
+twelve_is_no_refusal = refl

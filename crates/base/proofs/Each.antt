@@ -1,51 +1,13 @@
--- Laws of `each`, for a loop that replaces every element by a function of it and its number, and of `map`. Assumes nothing.
+-- Laws of `each`, a list with every element replaced by a function of it and its number, and of `map`. Assumes nothing.
 use mathlib.Core.Path.{◌≡◌, refl, ap, sym, ◌∙◌}
 use mathlib.Core.List.{List, [], ◌∷◌, map}
-use Prim.Native.Nat.{ℕ, zero, suc, ◌+◌, ◌<◌, ◌≤◌}
-use native.Mathlib.Nat.{not-suc-le-zero, le_of_suc-le-suc, add-zero, add-suc, suc-add}
-use native.Mathlib.Numerals.{add-one}
+use Prim.Native.Nat.{ℕ, zero, suc, ◌+◌, ◌<◌}
+use native.Mathlib.Nat.{not-suc-le-zero, le_of_suc-le-suc, add-zero}
 use native.Mathlib.Omega.{arith}
-use lib.ListN.{length, get_or, set, take}
+use lib.ListN.{length, get_or, take}
 use Rattle.base.specs.Lists.{each_from, each}
 
 module _ {A : Type 0} where
-  -- the list after n turns of the loop, the first element having the number j
-  unfoldable pub partly : (ℕ → A → A) → ℕ → ℕ → List A → List A
-  partly f j zero xs = xs
-  partly f j (suc n) [] = []
-  partly f j (suc n) (x ∷ xs) = f j x ∷ partly f (suc j) n xs
-
-  pub partly_none : (f : ℕ → A → A) (xs : List A) → xs ≡ partly f 0 0 xs
-  unfolding partly
-  partly_none f xs = refl
-
-  pub partly_all : (f : ℕ → A → A) (j n : ℕ) (xs : List A) → length xs ≤ n → partly f j n xs ≡ each_from f j xs
-  unfolding partly each_from
-  partly_all f j zero [] h = refl
-  partly_all f j zero (x ∷ xs) h = absurd (not-suc-le-zero h)
-  partly_all f j (suc n) [] h = refl
-  partly_all f j (suc n) (x ∷ xs) h = ap (λ (l : List A). f j x ∷ l) (partly_all f (suc j) n xs (le_of_suc-le-suc h))
-
-  -- the next element is as it was
-  get_or_partly : (f : ℕ → A → A) (j n : ℕ) (xs : List A) (d : A) → get_or (partly f j n xs) n d ≡ get_or xs n d
-  unfolding partly
-  get_or_partly f j zero xs d = refl
-  get_or_partly f j (suc n) [] d = refl
-  get_or_partly f j (suc n) (x ∷ xs) d = get_or_partly f (suc j) n xs d
-
-  partly_set : (f : ℕ → A → A) (j n : ℕ) (xs : List A) (d : A) → n < length xs → set (partly f j n xs) n (f (j + n) (get_or xs n d)) ≡ partly f j (suc n) xs
-  unfolding partly
-  partly_set f j zero [] d h = absurd (not-suc-le-zero h)
-  partly_set f j zero (x ∷ xs) d h = rw add-zero
-  partly_set f j (suc n) [] d h = absurd (not-suc-le-zero h)
-  partly_set f j (suc n) (x ∷ xs) d h =
-      ap (λ (l : List A). f j x ∷ l) (rw (add-suc, ← suc-add) (partly_set f (suc j) n xs d (le_of_suc-le-suc h)))
-
-  -- and f of it, put there, is one turn more
-  pub partly_more : (f : ℕ → A → A) (n : ℕ) (xs : List A) (d : A) → n < length xs → set (partly f 0 n xs) n (f n (get_or (partly f 0 n xs) n d)) ≡ partly f 0 (n + 1) xs
-  partly_more f n xs d h =
-      rw (add-one, get_or_partly) (rw (← partly_set f 0 n xs d h) (ap (λ (k : ℕ). set (partly f 0 n xs) n (f k (get_or xs n d))) (omega arith)))
-
   pub length_each_from : (f : ℕ → A → A) (j : ℕ) (xs : List A) → length (each_from f j xs) ≡ length xs
   unfolding each_from
   length_each_from f j [] = refl

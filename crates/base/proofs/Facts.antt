@@ -1,6 +1,6 @@
 -- What owning a value tells of an array whose elements are structs, and what the tests of a branch decide. Assumes nothing.
 use mathlib.Core.List.{List, map}
-use mathlib.Core.Path.{◌≡◌, sym, ◌∙◌, subst}
+use mathlib.Core.Path.{◌≡◌, sym, ◌∙◌}
 use mathlib.Core.Logic.{◌⊎◌, inl, inr}
 use mathlib.Core.Bool.{Bool, true, false}
 use Prim.Native.Nat.{ℕ, ◌<◌, ◌≤◌}
@@ -11,9 +11,6 @@ use borrow.Author.Tests.{eq-eqb, ne_eqb, le-leb, lt-leb, lt-ltb, le-ltb, ltb-tru
 
 pub mapped_long : (A B : Type 0) (f : A → B) (l : List A) (n : ℕ) → length (map f l) ≡ n → length l ≡ n
 mapped_long A B f l n p = sym (length-map l f) ∙ p
-
-pub mapped_below : (A B : Type 0) (f : A → B) (l : List A) (i n : ℕ) → length (map f l) ≡ n → i < n → i < length l
-mapped_below A B f l i n p h = subst (λ (k : ℕ). i < k) (sym (mapped_long A B f l n p)) h
 
 -- for `search (needs, tests)` where a branch returns
 pub ruleset tests = (eq-eqb, ne_eqb, le-leb, lt-leb, lt-ltb, le-ltb)

@@ -6,8 +6,8 @@ use Prim.Native.Nat.{ℕ, suc, ◌+◌, ◌-◌, ◌<◌, ◌≤◌}
 use native.Mathlib.Nat.{le_of_lt}
 use native.Mathlib.Numerals.{add-one}
 use native.Mathlib.Omega.{arith}
-use lib.ListN.{length, get_or, set, take, drop, length-take, length-drop, length-append, get_or-append, take-append-drop, drop_of_length-le, replicate, length-replicate, get_or-replicate}
-use lib.Seq.{drop-cons, take-suc, set_at, append_snoc, length-take-le, take_all, get_or-take, get_or-drop, get_or-append-add, take-append-le, take-take, sets, sets-eq, ext_get_or}
+use lib.ListN.{length, get_or, set, take, drop, length-take, length-drop, length-append, get_or-append, take-append-drop, replicate, length-replicate, get_or-replicate}
+use lib.Seq.{drop-cons, take-suc, set_at, append_snoc, length-take-le, get_or-take, get_or-drop, get_or-append-add, take-append-le, take-take, sets, sets-eq, ext_get_or}
 use Rattle.base.specs.Lists.{joined_at}
 use Rattle.base.proofs.Facts.{lt_or_le}
 
@@ -20,13 +20,6 @@ module _ {A : Type 0} where
   joined_more d i xs ys hx hy =
       rw (add-one, drop-cons ys i d hy, set_at (take i xs) _ _ (get_or xs i d) i (length-take-le i xs (le_of_lt hx)), take-suc xs i d hx)
       (sym (append_snoc (take i xs) (get_or xs i d) (drop (suc i) ys)))
-
-  -- past both ends nothing more can be copied
-  pub joined_full : (k i : ℕ) (xs ys : List A) → length xs ≤ i → length ys ≤ i → i ≤ k → joined_at i xs ys ≡ joined_at k xs ys
-  joined_full k i xs ys hx hy h =
-      let hxk : length xs ≤ k = omega arith in
-      let hyk : length ys ≤ k = omega arith in
-      rw (take_all i xs hx, take_all k xs hxk, drop_of_length-le ys {i = i} hy, drop_of_length-le ys {i = k} hyk)
 
   pub length_joined : (k : ℕ) (xs ys : List A) → k ≤ length xs → k ≤ length ys → length (joined_at k xs ys) ≡ length ys
   length_joined k xs ys hx hy = simp length-append (omega (arith, length-take k xs, length-drop k ys))

@@ -1,47 +1,64 @@
 -- What both texts come to: the run of all that was read of the one, the list of all of the other, and what is passed over of each. Assumes
 -- nothing.
-use mathlib.Core.Path.{◌≡◌, ap, ◌∙◌}
+use mathlib.Core.Path.{◌≡◌, refl, sym, ap, ◌∙◌}
 use mathlib.Core.Bool.{true, false}
+use mathlib.Core.List.{List, ◌++◌}
+use Prim.Native.Nat.{ℕ}
+use Rattle.std.specs.Prelude.{Result, Err}
+use Rattle.base.proofs.Bools.{not_both}
+use Rattle.lines.specs.declared.Broke.TheVariants.{CannotWrite}
+use Rattle.lines.specs.declared.walks.Walk.{Walk}
 use Rattle.lines.specs.Texts.{together}
-use Rattle.lines.specs.declared.End.{End}
-use Rattle.followed.specs.Follow.{finished_run, followed_by}
+use Rattle.lines.specs.Turns.{End, last_end, DrainsBy}
+use Rattle.lines.proofs.Turns.{as_one, ends_unwritten}
+use Rattle.lines.proofs.Walked.{walked_append}
+use Rattle.followed.specs.declared.Run.{Run}
+use Rattle.followed.specs.Follow.{run_after_line}
 use Rattle.followed.proofs.Followed.{followed_text}
-use Rattle.phones.specs.declared.Listing.{Listing}
-use Rattle.phones.specs.Listed.{finished_list, listed_by}
+use Rattle.phones.specs.declared.Listed.{Listed}
+use Rattle.phones.specs.Listed.{list_after_line}
 use Rattle.phones.proofs.Texts.{listed_text}
-use Rattle.checks.specs.declared.passed.Passing.{Passing}
-use Rattle.checks.specs.declared.texts.Texts.{Texts}
+use Rattle.checks.specs.declared.texts.Text.{Text}
 use Rattle.checks.specs.declared.texts.Both.{Both}
-use Rattle.checks.specs.Passing.{passed_by, finished_passed}
-use Rattle.lines.specs.Turns.{is_input}
-use Rattle.checks.specs.Reading.{new_texts, ReadOn, ReadsBoth}
-use Rattle.checks.proofs.PassedOver.{passed_text}
+use Rattle.checks.specs.declared.texts.Unread.{Unread}
+use Rattle.checks.specs.Passing.{new_passing}
+use Rattle.checks.specs.declared.passed.Passing.{Passing}
+use Rattle.checks.specs.Reading.{new_steps, new_records, text_taken, finished, come_to_by, both_of, ReadsBoth}
+use Rattle.checks.proofs.PassedOver.{passed_append, passed_text}
 
-pub reads_both : (a t u : Texts) (e f : End) (b : Both) → a ≡ new_texts → ReadOn true a t e → ReadOn false t u f → b.run ≡ finished_run u.following
-    → b.list ≡ finished_list u.listing → b.passed ≡ finished_passed u.passing → b.ends ≡ finished_passed u.ending → b.steps ≡ is_input e
-    → b.phones ≡ is_input f → ReadsBoth b
-reads_both a t u e f b n r s p q v w g h =
-    let started : t.following ≡ followed_by a.following (together r.pieces) = ap (λ (x : Texts). x.following) r.state in
-    let went : t.passing ≡ passed_by a.passing (together r.pieces) = ap (λ (x : Texts). x.passing) r.state in
-    let left : t.listing ≡ a.listing = ap (λ (x : Texts). x.listing) r.state in
-    let kept : t.ending ≡ a.ending = ap (λ (x : Texts). x.ending) r.state in
+module _ {A : Type 0} (f : A → List ℕ → A) where
+  taken_append : (t : Text A) (x y : List ℕ) → text_taken f t (x ++ y) ≡ text_taken f (text_taken f t x) y
+  taken_append t x y = cc (walked_append f t.walk x y, passed_append t.passing x y)
+
+  module _ {a t u : Text A} {e : End} (n : a ≡ u) (d : DrainsBy (text_taken f) a t e) where
+    -- all that was read is as one piece
+    taken_all : t ≡ text_taken f u (together d.pieces)
+    taken_all = d.state ∙ as_one (text_taken f) (λ x. refl) taken_append a d.pieces ∙ ap (λ (x : Text A). text_taken f x (together d.pieces)) n
+
+    -- what writes nothing ends by its last read alone
+    ended : (e ≡ Err CannotWrite → false ≡ true) → e ≡ last_end d.last true
+    ended wrote = ends_unwritten d.last d.wrote e d.end (λ z. not_both true refl (sym (wrote z)))
+
+-- as a text begins
+pub begun : {A : Type 0} {w v : Walk A} {p : Passing} → w ≡ v → p ≡ new_passing
+    → ◌≡◌ {A = Text A} (record { walk = w; passing = p }) (record { walk = v; passing = new_passing })
+begun e g = rw (e, g)
+
+-- what both come to, by how they ended
+pub reads_both : {a s : Text Run} {e : End} {b r : Text Listed} {f : End} → a ≡ new_steps → b ≡ new_records
+    → DrainsBy (text_taken run_after_line) a s e → DrainsBy (text_taken list_after_line) b r f
+    → (e ≡ Err CannotWrite → false ≡ true) → (f ≡ Err CannotWrite → false ≡ true)
+    → (x : Result Both Unread) → x ≡ come_to_by s r e f → ReadsBoth x
+reads_both {a} {s} {e} {b} {r} {f} n m d g wrote written x p =
+    let steps = together d.pieces in
+    let records = together g.pieces in
+    let comes : finished s r ≡ both_of steps records =
+    rw (taken_all run_after_line n d, taken_all list_after_line m g)
+    (cc (followed_text steps, passed_text steps, listed_text records, passed_text records)) in
     record {
-      steps = r.pieces;
-      followed =
-          p ∙ ap (λ (x : Texts). finished_run x.following) s.state ∙ ap finished_run started
-          ∙ ap (λ (x : Texts). finished_run (followed_by x.following (together r.pieces))) n ∙ followed_text (together r.pieces);
-      passed =
-          v ∙ ap (λ (x : Texts). finished_passed x.passing) s.state ∙ ap finished_passed went
-          ∙ ap (λ (x : Texts). finished_passed (passed_by x.passing (together r.pieces))) n ∙ passed_text (together r.pieces);
-      last_steps = r.last;
-      all_steps = g ∙ ap is_input r.ends;
-      phones = s.pieces;
-      listed =
-          q ∙ ap (λ (x : Texts). finished_list x.listing) s.state ∙ ap (λ (l : Listing). finished_list (listed_by l (together s.pieces))) left
-          ∙ ap (λ (x : Texts). finished_list (listed_by x.listing (together s.pieces))) n ∙ listed_text (together s.pieces);
-      ends =
-          w ∙ ap (λ (x : Texts). finished_passed x.ending) s.state ∙ ap (λ (x : Passing). finished_passed (passed_by x (together s.pieces))) kept
-          ∙ ap (λ (x : Texts). finished_passed (passed_by x.ending (together s.pieces))) n ∙ passed_text (together s.pieces);
-      last_phones = s.last;
-      all_phones = h ∙ ap is_input s.ends;
+      steps = d.pieces;
+      last_steps = d.last;
+      records = g.pieces;
+      last_records = g.last;
+      comes_to = p ∙ rw (ended run_after_line n d wrote, ended list_after_line m g written, comes) refl;
     }

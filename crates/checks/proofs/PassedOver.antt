@@ -10,8 +10,8 @@ use lib.Dec.{eqb}
 use lib.ListN.{length, get_or, drop}
 use lib.Seq.{drop-cons, drop-length}
 use Rattle.lines.proofs.Held.{held_empty, held_some, held_framed}
-use Rattle.frames.specs.declared.ReadStep.{ReadStep}
-use Rattle.frames.specs.declared.ReadStep.TheVariants.{NoFrame}
+use Rattle.steps.specs.declared.Step.{Step}
+use Rattle.std.proofs.Common.{Option, None}
 use Rattle.frames.specs.Layout.{step_bytes}
 use Rattle.frames.specs.Steps.{step_in, read_step}
 use Rattle.lines.specs.Texts.{line_feed, lines}
@@ -37,7 +37,7 @@ ended : (p : Passing) (q : List ℕ) → StandsFor p.reader q → p.last ≡ las
 unfolding line_held
 ended p q h e =
     let r = p.reader in
-    ap (λ (x : ReadStep). passed_after_read p.passed x p.last) (held_framed step_bytes step_in NoFrame width (omega arith) r.held r.fill r.over h)
+    ap (λ (x : Option Step). passed_after_read p.passed x p.last) (held_framed step_bytes step_in None width (omega arith) r.held r.fill r.over h)
     ∙ ap (passed_after_read p.passed (read_step q)) e
 
 -- after a byte, by whether it is a line feed

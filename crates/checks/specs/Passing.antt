@@ -1,8 +1,7 @@
 -- The lines of a text that are no step frames: how many there are, and which is the first; and the first line that ends in CR. Nobody has to
 -- believe this: no verdict goes by it. Assumes nothing.
-use Rattle.std.specs.Prelude.{Bool, true, false, cond, List, [], ◌∷◌, ℕ, eqb}
-use Rattle.frames.specs.declared.ReadStep.{ReadStep}
-use Rattle.frames.specs.declared.ReadStep.TheVariants.{Step, NoFrame}
+use Rattle.std.specs.Prelude.{Bool, true, false, cond, List, [], ◌∷◌, ℕ, eqb, Option, Some, None}
+use Rattle.steps.specs.declared.Step.{Step}
 use Rattle.frames.specs.Steps.{read_step}
 use Rattle.lines.specs.Texts.{line_feed, lines, one_more}
 use Rattle.lines.specs.Readers.{fresh_reader, line_held, is_empty, reader_after}
@@ -13,17 +12,18 @@ use Rattle.checks.specs.declared.passed.Passing.{Passing}
 abbrev pub carriage_return : ℕ
 carriage_return = 13
 
-abbrev pub is_none : ReadStep → Bool
-is_none (Step s) = false
-is_none NoFrame = true
+abbrev pub is_none : Option Step → Bool
+is_none (Some s) = false
+is_none None = true
 
 -- one more where it is so, as far as a number goes
 unfoldable pub counted : ℕ → Bool → ℕ
 counted n so = cond so (one_more n) n
 
--- the first line where it was so; 0 for none
-unfoldable pub first_noted : ℕ → ℕ → Bool → ℕ
-first_noted first number so = cond so (cond (eqb first 0) number first) first
+-- the first line where it was so
+unfoldable pub first_noted : Option ℕ → ℕ → Bool → Option ℕ
+first_noted None number so = cond so (Some number) None
+first_noted (Some n) number so = Some n
 
 -- the last character of a line, where a is the one before it
 abbrev pub last_after : ℕ → List ℕ → ℕ
@@ -32,10 +32,10 @@ last_after a (b ∷ bs) = last_after b bs
 
 -- before the first line
 abbrev pub new_passed : Passed
-new_passed = record { number = 1; count = 0; first = 0; cr = 0 }
+new_passed = record { number = 1; count = 0; first = None; cr = None }
 
 -- a line that reads so and ends in that character
-unfoldable pub passed_after_read : Passed → ReadStep → ℕ → Passed
+unfoldable pub passed_after_read : Passed → Option Step → ℕ → Passed
 passed_after_read p read last =
     record {
       number = counted p.number true;

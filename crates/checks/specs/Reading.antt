@@ -1,51 +1,50 @@
--- Two texts that are read from their descriptors: what a turn does with what was read, and the pieces that it all was. Nobody has to believe
+-- Two texts that are read from their descriptors: what is done with a piece, what both come to, and the pieces that it all was. Nobody has to believe
 -- this: what the program's loop does follows. Assumes nothing.
-use Rattle.std.specs.Prelude.{◌≡◌, List, Bool, true, false, ℕ, length, ℤ}
+use Rattle.std.specs.Prelude.{◌≡◌, List, true, cond, ℕ, Option, Result, Ok, Err}
 use Rattle.lines.specs.Texts.{together}
-use Rattle.lines.specs.declared.End.{End}
-use Rattle.lines.specs.declared.End.TheVariants.{More}
-use Rattle.lines.specs.Turns.{most_turns, end_of, given, is_input}
-use Rattle.followed.specs.Follow.{run_followed, new_following, followed_by}
-use Rattle.phones.specs.Listed.{list_of, new_listing, listed_by}
-use Rattle.checks.specs.Passing.{passed_of, new_passing, passed_by}
-use Rattle.checks.specs.declared.texts.Texts.{Texts}
+use Rattle.lines.specs.Turns.{End, last_end, is_input}
+use Rattle.lines.specs.Walks.{walked}
+use Rattle.followed.specs.declared.Run.{Run}
+use Rattle.followed.specs.Follow.{run_followed, new_following, finished_run}
+use Rattle.phones.specs.declared.Listed.{Listed}
+use Rattle.phones.specs.Listed.{list_of, new_listing, finished_list}
+use Rattle.checks.specs.Passing.{passed_of, new_passing, passed_by, finished_passed}
+use Rattle.checks.specs.declared.texts.Text.{Text}
 use Rattle.checks.specs.declared.texts.Both.{Both}
+use Rattle.checks.specs.declared.texts.Unread.{Unread}
+use Rattle.checks.specs.declared.texts.Unread.TheVariants as U
 
-abbrev pub new_texts : Texts
-new_texts = record { following = new_following; listing = new_listing; passing = new_passing; ending = new_passing }
+abbrev pub new_steps : Text Run
+new_steps = record { walk = new_following; passing = new_passing }
 
--- one piece more, of the step lines or of the phones' records
-abbrev pub taken_by : Bool → Texts → List ℕ → Texts
-taken_by true t piece =
-    record { following = followed_by t.following piece; listing = t.listing; passing = passed_by t.passing piece; ending = t.ending }
-taken_by false t piece =
-    record { following = t.following; listing = listed_by t.listing piece; passing = t.passing; ending = passed_by t.ending piece }
+abbrev pub new_records : Text Listed
+new_records = record { walk = new_listing; passing = new_passing }
 
-module _ (steps : Bool) where
-  -- one turn: every byte that was given is taken, and the turn ends as it must
-  pub record Turned (t : Texts) (buffer : List ℕ) (got : ℤ) (u : Texts) (end : End) : Type 0 where
-    pub state : u ≡ taken_by steps t (given got buffer)
-    pub ends : end ≡ end_of got true
+-- one piece more of a text whose lines do f
+abbrev pub text_taken : {A : Type 0} → (A → List ℕ → A) → Text A → List ℕ → Text A
+text_taken f t piece = record { walk = walked f t.walk piece; passing = passed_by t.passing piece }
 
-  -- all turns: some pieces were taken, and it stopped for what the last read answered; it gives up with more to read only after so many
-  -- turns as nobody lives to see
-  pub record ReadOn (t u : Texts) (end : End) : Type 0 where
-    pub pieces : List (List ℕ)
-    pub state : u ≡ taken_by steps t (together pieces)
-    pub last : ℤ
-    pub ends : end ≡ end_of last true
-    pub patient : end ≡ More → length pieces ≡ most_turns
+-- what two texts come to that were read so far
+abbrev pub finished : Text Run → Text Listed → Both
+finished s r = record { run = finished_run s.walk; list = finished_list r.walk; passed = finished_passed s.passing; ends = finished_passed r.passing }
+
+-- the same by how they ended: only what was read to its end comes to anything
+abbrev pub come_to_by : Text Run → Text Listed → End → End → Result Both Unread
+come_to_by s r e f = cond (is_input e) (cond (is_input f) (Ok (finished s r)) (Err U.Records)) (Err U.Steps)
+
+-- what two texts come to
+abbrev pub both_of : List ℕ → List ℕ → Both
+both_of steps records = record { run = run_followed steps; list = list_of records; passed = passed_of steps; ends = passed_of records }
 
 -- the run and the list are those that the pieces of each text, as one text, are, and so is what is passed over; all of it was read where the
 -- last read answered that it ends
-pub record ReadsBoth (b : Both) : Type 0 where
+pub record ReadsBoth (r : Result Both Unread) : Type 0 where
   pub steps : List (List ℕ)
-  pub followed : b.run ≡ run_followed (together steps)
-  pub passed : b.passed ≡ passed_of (together steps)
-  pub last_steps : ℤ
-  pub all_steps : b.steps ≡ is_input (end_of last_steps true)
-  pub phones : List (List ℕ)
-  pub listed : b.list ≡ list_of (together phones)
-  pub ends : b.ends ≡ passed_of (together phones)
-  pub last_phones : ℤ
-  pub all_phones : b.phones ≡ is_input (end_of last_phones true)
+  pub last_steps : Option ℕ
+  pub records : List (List ℕ)
+  pub last_records : Option ℕ
+  pub comes_to :
+      r
+      ≡ cond (is_input (last_end last_steps true))
+      (cond (is_input (last_end last_records true)) (Ok (both_of (together steps) (together records))) (Err U.Records))
+      (Err U.Steps)

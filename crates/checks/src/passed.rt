@@ -1,20 +1,22 @@
 // What is passed over of a text: how many of its lines are no step frames, and the first of them; and the first line that ends in CR.
-ghost use Rattle.std.specs.Prelude.{◌≡◌};
-ghost use Rattle.checks.specs.Passing.{is_none, counted, first_noted, passed_after_read, new_passing, after_byte, passed_by, finished_passed};
+#![tactic(auto, unfolding(crate::specs::Passing::counted, crate::specs::Passing::first_noted, crate::specs::Passing::passed_after_read, crate::specs::Passing::after_byte, crate::specs::Passing::finished_passed))]
 
-use frames::ReadStep;
+ghost use Rattle.std.specs.Prelude.{◌≡◌};
+ghost use Rattle.checks.specs.Passing.{counted, first_noted, passed_after_read, new_passing, after_byte, passed_by, finished_passed};
+
 use lines::Reader;
+use steps::Step;
 
 const CARRIAGE_RETURN: u8 = 13;
 
 // The number of the line that is being read; how many lines were no frames, the first one's number, and that of the first line that ended
-// in CR, 0 for none.
+// in CR.
 #[derive(Clone, Copy)]
 pub struct Passed {
     pub number: usize,
     pub count: usize,
-    pub first: usize,
-    pub cr: usize,
+    pub first: Option<usize>,
+    pub cr: Option<usize>,
 }
 
 // The same, the line that is being read, and its last character.
@@ -33,20 +35,11 @@ pub(crate) fn begin() -> Passing
         passed: Passed {
             number: 1,
             count: 0,
-            first: 0,
-            cr: 0,
+            first: None,
+            cr: None,
         },
         reader: lines::fresh_reader(),
         last: 0,
-    }
-}
-
-fn is_none(read: ReadStep) -> bool
-    ensures { result ≡ is_none read }
-{
-    match read {
-        ReadStep::Step(_) => false,
-        ReadStep::NoFrame => true,
     }
 }
 
@@ -61,22 +54,17 @@ fn counted(n: usize, so: bool) -> usize
 }
 
 // The number of the first line where it was so: this one's, where it is so and was not before.
-fn noted(first: usize, number: usize, so: bool) -> usize
+fn noted(first: Option<usize>, number: usize, so: bool) -> Option<usize>
     ensures { result ≡ first_noted first number so }
 {
-    if so {
-        if first == 0 {
-            return number;
-        }
-    }
-    first
+    first.or(so.then_some(number))
 }
 
 // After a line that reads so and ends in that character.
-fn after_line(p: Passed, read: ReadStep, last: u8) -> Passed
+fn after_line(p: Passed, read: Option<Step>, last: u8) -> Passed
     ensures { result ≡ passed_after_read p read last }
 {
-    let none = is_none(read);
+    let none = read.is_none();
     Passed {
         number: counted(p.number, true),
         count: counted(p.count, none),
@@ -88,19 +76,16 @@ fn after_line(p: Passed, read: ReadStep, last: u8) -> Passed
 fn after_byte(p: Passing, b: u8) -> Passing
     ensures { result ≡ after_byte p b }
 {
-    let passed = p.passed;
-    let reader = p.reader;
-    let next = lines::taken(reader, b);
+    let next = lines::taken(p.reader, b);
     if b != lines::LINE_FEED {
         return Passing {
-            passed: passed,
             reader: next,
             last: b,
+            ..p
         };
     }
-    let read = replay::step_held(reader);
     Passing {
-        passed: after_line(passed, read, p.last),
+        passed: after_line(p.passed, replay::step_held(p.reader), p.last),
         reader: next,
         last: 0,
     }
@@ -111,10 +96,7 @@ pub(crate) fn pass(p: Passing, piece: &[u8]) -> Passing
     ensures { result ≡ passed_by p piece.now }
 {
     let mut q = p;
-    let mut i: usize = 0;
-    while i < piece.len() {
-        let b = piece[i];
-        i += 1;
+    for &b in piece {
         q = after_byte(q, b);
     }
     q
@@ -124,11 +106,8 @@ pub(crate) fn pass(p: Passing, piece: &[u8]) -> Passing
 pub(crate) fn finish(p: Passing) -> Passed
     ensures { result ≡ finished_passed p }
 {
-    let passed = p.passed;
-    let reader = p.reader;
-    if lines::is_empty(reader) {
-        return passed;
+    if lines::is_empty(p.reader) {
+        return p.passed;
     }
-    let read = replay::step_held(reader);
-    after_line(passed, read, p.last)
+    after_line(p.passed, replay::step_held(p.reader), p.last)
 }

@@ -1,231 +1,218 @@
 // The verdict as a sentence: first words for scripts, as docs/HISTORIES.md has them, and then words for a person.
+ghost use Rattle.std.specs.Prelude.{◌<◌};
+ghost use Rattle.phones.specs.Listed.{most_kept};
+
+use crate::find;
 use crate::passed::Passed;
-use crate::say::say;
-use crate::{find, say};
+use crate::say::Valued;
 use followed::Run;
 use histories::kept::MOST_KEPT;
 use histories::why::Reason;
 use histories::{Checked, PhoneRecord};
 use phones::Listed;
 use server_log::{Entry, Log};
+use std::fmt::{self, Display, Formatter, Write};
 use steps::Refusal;
 use streams::Streams;
 use verdicts::Verdict;
 
 // The one sentence, with what is passed over of the step lines, and of the phones'.
 pub(crate) fn tell(streams: &Streams, run: Run, s: Listed, passed: Passed, ends: Passed) {
-    let v = verdicts::judge(run, s);
-    let g = run.longest;
-    match v {
-        Verdict::BadLine(n) => bad_line(streams, n, ends.cr),
-        Verdict::NoStart => {
-            no_start(streams);
-            no_frames(streams, passed);
+    streams.print(Sentence {
+        run: &run,
+        list: &s,
+        passed,
+        ends,
+    });
+}
+
+#[derive(Clone, Copy)]
+struct Sentence<'a> {
+    run: &'a Run,
+    list: &'a Listed,
+    passed: Passed,
+    ends: Passed,
+}
+
+impl Display for Sentence<'_> {
+    fn fmt<W: Write>(&self, f: &mut Formatter<W>) -> fmt::Result {
+        match verdicts::judge(*self.run, *self.list) {
+            Verdict::BadLine(n) => bad_line(f, n, self.ends.cr)?,
+            Verdict::NoStart => {
+                f.write_str(
+                    "no start: no step line has started a cluster, so there is no log to check against; the step files are named first, the phones' file last",
+                )?;
+                no_frames(f, self.passed)?;
+            }
+            Verdict::Judged(c) => {
+                judged(f, c, self.run.longest, self.list)?;
+                against(f, server_log::length_of(self.run.longest), self.run.starts)?;
+                no_frames(f, self.passed)?;
+            }
         }
-        Verdict::Judged(c) => {
-            judged(streams, c, g, s);
-            against(streams, server_log::length_of(g), run.starts);
-            no_frames(streams, passed);
-        }
+        f.write_str("\n")
     }
-    say(streams, b"\n");
 }
 
 // A line that ends in CR is no record, so the first of them is no earlier than the first bad one.
-fn bad_line(streams: &Streams, n: usize, cr: usize) {
-    say::number(streams, b"refusal 1 at line ", n);
-    say(
-        streams,
-        b": that line of the phones' file, which is the last one named, is no record (24 characters 0-9 a-f and then a line feed), so nothing is checked",
-    );
-    if n == cr {
-        cr_lf(streams, cr);
-    }
-}
-
-fn no_start(streams: &Streams) {
-    say(
-        streams,
-        b"no start: no step line has started a cluster, so there is no log to check against; the step files are named first, the phones' file last",
-    );
+fn bad_line<W: Write>(f: &mut Formatter<W>, n: usize, cr: Option<usize>) -> fmt::Result {
+    write!(
+        f,
+        "refusal 1 at line {n}: that line of the phones' file, which is the last one named, is no record (24 characters 0-9 a-f and then a line feed), so nothing is checked"
+    )?;
+    cr_lf(f, cr.filter(|line| *line == n))
 }
 
 // How many step lines change nothing since they are no frames, and which is the first.
-fn no_frames(streams: &Streams, p: Passed) {
-    if p.count == 0 {
-        return;
-    }
-    say::number(streams, b"; step lines that are no frames: ", p.count);
-    say::number(streams, b", the first of them line ", p.first);
-    say(streams, b", counted over all step files");
-    if p.cr != 0 {
-        cr_lf(streams, p.cr);
-    }
+fn no_frames<W: Write>(f: &mut Formatter<W>, p: Passed) -> fmt::Result {
+    let Some(first) = p.first else {
+        return Ok(());
+    };
+    write!(
+        f,
+        "; step lines that are no frames: {}, the first of them line {first}, counted over all step files",
+        p.count
+    )?;
+    cr_lf(f, p.cr)
 }
 
-fn cr_lf(streams: &Streams, line: usize) {
-    say::number(streams, b"; line ", line);
-    say(
-        streams,
-        b" ends in CR LF, as in files from Windows: tr -d '\\r' <FILE >NEW takes the CR out",
-    );
+fn cr_lf<W: Write>(f: &mut Formatter<W>, line: Option<usize>) -> fmt::Result {
+    let Some(line) = line else {
+        return Ok(());
+    };
+    write!(
+        f,
+        "; line {line} ends in CR LF, as in files from Windows: tr -d '\\r' <FILE >NEW takes the CR out"
+    )
 }
 
-fn judged(streams: &Streams, c: Checked, g: Log, s: Listed) {
+fn judged<W: Write>(f: &mut Formatter<W>, c: Checked, g: Log, s: &Listed) -> fmt::Result {
     match c {
-        Checked::Accepted => {
-            say::number(streams, b"accepted ", s.count);
-            say(streams, b": every record is as the log has it");
-        }
-        Checked::Breaks(n) => breaks(streams, n, g, s),
-        Checked::Refused(x) => refused(streams, x, s),
+        Checked::Accepted => write!(f, "accepted {}: every record is as the log has it", s.count),
+        Checked::Breaks(n) => breaks(f, n, g, s),
+        Checked::Refused(x) => refused(f, x, s),
     }
 }
 
 // What the records are checked against: so many entries, since the last of so many starts.
-fn against(streams: &Streams, entries: usize, starts: usize) {
+fn against<W: Write>(f: &mut Formatter<W>, entries: usize, starts: usize) -> fmt::Result {
     if starts <= 1 {
-        covered_ever(streams, entries);
-        return;
+        if entries == 0 {
+            return f.write_str("; no commit point has ever covered an entry");
+        }
+        return write!(f, "; entries that a commit point ever covered: {entries}");
     }
-    covered_since(streams, entries);
-    say::number(streams, b"; starts that succeeded: ", starts);
-    say(streams, b", of which the last counts");
-}
-
-fn covered_ever(streams: &Streams, entries: usize) {
     if entries == 0 {
-        say(streams, b"; no commit point has ever covered an entry");
-        return;
+        f.write_str("; no commit point has covered an entry since the last start")?;
+    } else {
+        write!(
+            f,
+            "; entries that a commit point covered since the last start: {entries}"
+        )?;
     }
-    say::number(
-        streams,
-        b"; entries that a commit point ever covered: ",
-        entries,
-    );
+    write!(
+        f,
+        "; starts that succeeded: {starts}, of which the last counts"
+    )
 }
 
-fn covered_since(streams: &Streams, entries: usize) {
-    if entries == 0 {
-        say(
-            streams,
-            b"; no commit point has covered an entry since the last start",
-        );
-        return;
-    }
-    say::number(
-        streams,
-        b"; entries that a commit point covered since the last start: ",
-        entries,
-    );
-}
-
-fn refused(streams: &Streams, x: Refusal, s: Listed) {
+fn refused<W: Write>(f: &mut Formatter<W>, x: Refusal, s: &Listed) -> fmt::Result {
     match x {
-        Refusal::IllFormed => say(
-            streams,
-            b"refusal 2: what the steps covered is no log that a record could hold, so nothing is checked",
+        Refusal::IllFormed => f.write_str(
+            "refusal 2: what the steps covered is no log that a record could hold, so nothing is checked",
         ),
-        _ => out_of_range(streams, s),
+        _ => out_of_range(f, s),
     }
 }
 
 // A list too long, or a record out of range.
-fn out_of_range(streams: &Streams, s: Listed) {
-    say(streams, b"refusal 3: ");
+fn out_of_range<W: Write>(f: &mut Formatter<W>, s: &Listed) -> fmt::Result {
     if histories::MOST_RECORDS < s.count {
-        say(
-            streams,
-            b"there are more than 256 records, so nothing is checked; give a file for each session, or several whole sessions at once, since a session that is cut in two is checked as two",
+        return f.write_str(
+            "refusal 3: there are more than 256 records, so nothing is checked; give a file for each session, or several whole sessions at once, since a session that is cut in two is checked as two",
         );
-        return;
     }
-    say::number(streams, b"the record in line ", find::out_of_range(s) + 1);
-    say(
-        streams,
-        b" is neither of a write (kind 06) nor of a majority read (0b), or its key is above 15 (0f), so nothing is checked",
-    );
+    let line = find::out_of_range(*s).unwrap_or(MOST_KEPT) + 1;
+    write!(
+        f,
+        "refusal 3: the record in line {line} is neither of a write (kind 06) nor of a majority read (0b), or its key is above 15 (0f), so nothing is checked"
+    )
 }
 
 // The record that breaks a rule, its line, which rule, and what the log has there.
-fn breaks(streams: &Streams, n: usize, g: Log, s: Listed) {
-    say::number(streams, b"record ", n);
+fn breaks<W: Write>(f: &mut Formatter<W>, n: usize, g: Log, s: &Listed) -> fmt::Result {
+    write!(f, "record {n}")?;
     if MOST_KEPT <= n {
-        return;
+        return Ok(());
     }
-    say::number(streams, b" at line ", n + 1);
+    write!(f, " at line {}: a ", n + 1)?;
+    rule(f, verdicts::reason(g, s.records[n]), n, s)?;
+    f.write_str("; docs/HISTORIES.md tells what that can mean")
+}
+
+// What the record says, and which rule that breaks.
+fn rule<W: Write>(f: &mut Formatter<W>, why: Reason, n: usize, s: &Listed) -> fmt::Result
+    requires { n < most_kept }
+{
     let r = s.records[n];
-    let why = verdicts::reason(g, r);
+    let value = Valued {
+        key: r.key,
+        value: r.value,
+        time: r.time,
+    };
     match why {
-        Reason::NoSuchPosition => no_such_position(streams, r),
-        Reason::OtherEntry(e) => other_entry(streams, r, e),
-        Reason::NoSuchTime => no_such_time(streams, r),
-        Reason::OtherValue(v) => other_value(streams, r, v),
+        Reason::NoSuchPosition => write!(
+            f,
+            "write of {value}, position {}, but the log has no such position",
+            r.position
+        ),
+        Reason::OtherEntry(e) => {
+            write!(
+                f,
+                "write of {value}, position {}, but there the log has ",
+                r.position
+            )?;
+            entry(f, e)
+        }
+        Reason::NoSuchTime => write!(f, "read of {value}, but no entry of the log has that time"),
+        Reason::OtherValue(0) => write!(
+            f,
+            "read of {value}, but the log has no value for that key up to that time"
+        ),
+        Reason::OtherValue(v) => write!(
+            f,
+            "read of {value}, but up to that time the log has for that key value {v}"
+        ),
         Reason::TooEarly => {
-            let j = find::seen_later(s, n);
-            let e = s.records[j];
-            too_early(streams, r, e, j + 1);
+            let j = find::seen_later(*s, n).unwrap_or(n);
+            write!(f, "read of {value}, but its session ")?;
+            too_early(f, s.records[j], r.session, j + 1)
         }
     }
-    say(streams, b"; docs/HISTORIES.md tells what that can mean");
 }
 
-fn write_of(streams: &Streams, r: PhoneRecord) {
-    let t = r.time;
-    say::value(streams, b": a write of ", r.key, r.value, t);
-    say::number(streams, b", position ", r.position as usize);
-}
-
-fn read_of(streams: &Streams, r: PhoneRecord) {
-    let t = r.time;
-    say::value(streams, b": a read of ", r.key, r.value, t);
-}
-
-fn no_such_position(streams: &Streams, r: PhoneRecord) {
-    write_of(streams, r);
-    say(streams, b", but the log has no such position");
-}
-
-fn other_entry(streams: &Streams, r: PhoneRecord, e: Entry) {
-    write_of(streams, r);
-    let t = e.time;
+fn entry<W: Write>(f: &mut Formatter<W>, e: Entry) -> fmt::Result {
     if e.key == server_log::NO_KEY {
-        say::time(
-            streams,
-            b", but there the log has an entry that writes nothing, at time ",
-            t,
-        );
-        return;
+        return write!(f, "an entry that writes nothing, at time {}", e.time);
     }
-    say::value(streams, b", but there the log has ", e.key, e.value, t);
+    let value = Valued {
+        key: e.key,
+        value: e.value,
+        time: e.time,
+    };
+    write!(f, "{value}")
 }
 
-fn no_such_time(streams: &Streams, r: PhoneRecord) {
-    read_of(streams, r);
-    say(streams, b", but no entry of the log has that time");
-}
-
-fn other_value(streams: &Streams, r: PhoneRecord, v: u16) {
-    read_of(streams, r);
-    if v == 0 {
-        say(
-            streams,
-            b", but the log has no value for that key up to that time",
-        );
-        return;
-    }
-    say::number(
-        streams,
-        b", but up to that time the log has for that key value ",
-        v as usize,
-    );
-}
-
-// The record e in that line has seen more than r, a later one of its session.
-fn too_early(streams: &Streams, r: PhoneRecord, e: PhoneRecord, line: usize) {
-    read_of(streams, r);
-    say::number(streams, b", but its session ", r.session as usize);
-    let t = e.time;
-    say::time(streams, b" had seen time ", t);
-    say::number(streams, b" before, in line ", line);
+// The record in that line has seen more than a later one of its session.
+fn too_early<W: Write>(
+    f: &mut Formatter<W>,
+    e: PhoneRecord,
+    session: u16,
+    line: usize,
+) -> fmt::Result {
+    write!(
+        f,
+        "{session} had seen time {} before, in line {line}",
+        e.time
+    )
 }

@@ -1,143 +1,107 @@
 // Both texts, each from its source to its end: the step lines from standard input, and then the phones' records from the descriptor that the
-// launcher opens. One loop does for both.
-ghost use Rattle.std.specs.Prelude.{◌≡◌};
-ghost use Rattle.checks.specs.Reading.{new_texts, taken_by, Turned, ReadOn, ReadsBoth};
+// launcher opens.
+ghost use Rattle.std.specs.Prelude.{◌≡◌, false, refl};
+ghost use Rattle.followed.specs.Follow.{run_after_line};
+ghost use Rattle.phones.specs.Listed.{list_after_line};
+ghost use Rattle.checks.specs.Reading.{text_taken, come_to_by, ReadsBoth};
 
-use crate::passed;
-use crate::passed::{Passed, Passing};
-use followed::{Following, Run};
-use lines::{End, PIECE};
-use phones::{Listed, Listing};
-use streams::Source;
+use crate::passed::{self, Passed, Passing};
+use followed::Run;
+use lines::End;
+use lines::walks::Walk;
+use phones::Listed;
+use streams::{Source, Taker};
 
-// Both texts as far as they were read, and what is passed over of the step lines, and of the phones'.
+// A text as far as it was read, and what is passed over of it.
 #[derive(Clone, Copy)]
-pub struct Texts {
-    pub following: Following,
-    pub listing: Listing,
+pub struct Text<S> {
+    pub walk: Walk<S>,
     pub passing: Passing,
-    pub ending: Passing,
 }
 
-// The same, and why it was read no further.
-#[derive(Clone, Copy)]
-pub struct Taken {
-    pub texts: Texts,
-    pub end: End,
-}
-
-// What both texts come to, and of each what is passed over, and whether all of it was read.
+// What both texts come to, and of each what is passed over.
 #[derive(Clone, Copy)]
 pub struct Both {
     pub run: Run,
     pub list: Listed,
     pub passed: Passed,
     pub ends: Passed,
-    pub steps: bool,
-    pub phones: bool,
 }
 
-fn begin() -> Texts
-    ensures { result ≡ new_texts }
+// The text that can't be read to its end, the first where neither can.
+#[derive(Clone, Copy)]
+pub enum Unread {
+    Steps,
+    Records,
+}
+
+// Kept: one `Taker` of each, since `follow_is` and `list_is` of the page of claims speak of `follow` and `list`, which are what runs.
+impl Taker for Text<Run> {
+    type State = Text<Run>;
+
+    ghost state = { λ t. t };
+
+    ghost over = { text_taken run_after_line };
+
+    ghost writes = { false };
+
+    fn take(&mut self, piece: &[u8]) -> bool {
+        self.walk = followed::follow(self.walk, piece);
+        self.passing = passed::pass(self.passing, piece);
+        true
+    }
+
+    ghost over_nothing = { λ t. refl };
+}
+
+impl Taker for Text<Listed> {
+    type State = Text<Listed>;
+
+    ghost state = { λ t. t };
+
+    ghost over = { text_taken list_after_line };
+
+    ghost writes = { false };
+
+    fn take(&mut self, piece: &[u8]) -> bool {
+        self.walk = phones::list(self.walk, piece);
+        self.passing = passed::pass(self.passing, piece);
+        true
+    }
+
+    ghost over_nothing = { λ t. refl };
+}
+
+// What both come to as they ended: the first that was not read to its end, or all of both.
+fn come_to(s: Text<Run>, r: Text<Listed>, first: End, second: End) -> Result<Both, Unread>
+    ensures { result ≡ come_to_by s r first second }
 {
-    Texts {
-        following: followed::begin(),
-        listing: phones::begin(),
-        passing: passed::begin(),
-        ending: passed::begin(),
+    if !lines::is_input(first) {
+        return Err(Unread::Steps);
     }
+    if !lines::is_input(second) {
+        return Err(Unread::Records);
+    }
+    Ok(Both {
+        run: followed::finish(s.walk),
+        list: phones::finish(r.walk),
+        passed: passed::finish(s.passing),
+        ends: passed::finish(r.passing),
+    })
 }
 
-// One piece more, of the step lines or of the phones' records.
-fn take(t: Texts, steps: bool, piece: &[u8]) -> Texts
-    ensures { result ≡ taken_by steps t piece.now }
-{
-    let f = t.following;
-    let l = t.listing;
-    let p = t.passing;
-    let q = t.ending;
-    if steps {
-        return Texts {
-            following: followed::follow(f, piece),
-            listing: l,
-            passing: passed::pass(p, piece),
-            ending: q,
-        };
-    }
-    Texts {
-        following: f,
-        listing: phones::list(l, piece),
-        passing: p,
-        ending: passed::pass(q, piece),
-    }
-}
-
-// One turn with what a read answered.
-fn turn(t: Texts, steps: bool, buffer: &[u8], got: isize) -> Taken
-    ensures { Turned steps t buffer.now got result.texts result.end }
-{
-    if got == 0 {
-        return Taken {
-            texts: t,
-            end: End::Input,
-        };
-    }
-    if got < 0 {
-        return Taken {
-            texts: t,
-            end: End::CannotRead,
-        };
-    }
-    let n = io::count(got, buffer);
-    Taken {
-        texts: take(t, steps, &buffer[..n]),
-        end: End::More,
-    }
-}
-
-// A source to its end. The count of turns only makes the loop end: nobody lives to see it run out.
-fn read_on(source: &mut Source, t: Texts, steps: bool) -> Taken
-    ensures { ReadOn steps t result.texts result.end }
-{
-    let mut d = t;
-    let mut turns = u64::MAX;
-    while turns > 0 {
-        let mut buffer = [0; PIECE];
-        let got = source.read(&mut buffer);
-        let u = turn(d, steps, &buffer, got);
-        let e = u.texts;
-        d = e;
-        let end = u.end;
-        let End::More = end else {
-            return Taken { texts: d, end: end };
-        };
-        turns -= 1;
-    }
-    Taken {
-        texts: d,
-        end: End::More,
-    }
-}
-
-pub(crate) fn read(steps: &mut Source, phones: &mut Source) -> Both
+pub(crate) fn read(steps: &mut Source, records: &mut Source) -> Result<Both, Unread>
     ensures { ReadsBoth result }
 {
-    let first = read_on(steps, begin(), true);
-    let t = first.texts;
-    let second = read_on(phones, t, false);
-    let u = second.texts;
-    let f = u.following;
-    let l = u.listing;
-    let p = u.passing;
-    let q = u.ending;
-    let ended = first.end;
-    let over = second.end;
-    Both {
-        run: followed::finish(f),
-        list: phones::finish(l),
-        passed: passed::finish(p),
-        ends: passed::finish(q),
-        steps: lines::is_input(ended),
-        phones: lines::is_input(over),
-    }
+    let mut s = Text {
+        walk: followed::begin(),
+        passing: passed::begin(),
+    };
+    let mut r = Text {
+        walk: phones::begin(),
+        passing: passed::begin(),
+    };
+    let first = streams::drain(steps, &mut s);
+    let second = streams::drain(records, &mut r);
+    come_to(s, r, first, second)
 }

@@ -21,7 +21,7 @@ use lib.ListN.{length, get_or, take}
 use Rattle.base.proofs.Bools.{and_left, and_right}
 use Rattle.base.proofs.Results.{OneResult, OneOutcome}
 use Rattle.base.specs.Numbers.{byte, count}
-use Rattle.clock.specs.declared.Ticked.TheVariants.{To}
+use Rattle.std.specs.declared.option.Option.TheVariants.{Some}
 use Rattle.clock.specs.declared.Time.{Time}
 use Rattle.clock.specs.Times.{limit, zero_time, is_before, tick_of}
 use Rattle.clock.proofs.Order as order
@@ -41,8 +41,8 @@ use Rattle.cluster.specs.Sets.{bits, members_of, votes, voters, voters_with, mos
 use Rattle.cluster.proofs.Good as facts
 use Rattle.cluster.proofs.Masks as masks
 use Rattle.steps.specs.declared.Step.TheVariants.{Start, Elect, Pulls, RollsBack, Writes, Acknowledged, ClocksAgree, WritesNothing, NewestRead, TakesReport}
-use Rattle.steps.specs.Answers.{number_of}
-use Rattle.steps.proofs.Numbers as numbers
+use Rattle.steps.specs.Answers.{number_of, Telling}
+use Rattle.steps.proofs.Positions as numbers
 use Rattle.wholes.specs.Starts.{start_rules}
 use Rattle.counts.specs.Advances.{passes, highest_passing}
 use Rattle.counts.proofs.Passing as passing
@@ -74,7 +74,6 @@ use Rattle.steps.specs.declared.Outcome.{Outcome}
 use Rattle.steps.specs.declared.Refusal.{Refusal}
 use Rattle.steps.specs.declared.Refusal.TheVariants.{IllFormed, OutOfRange, Retired}
 use Rattle.steps.specs.declared.Step.{Step}
-use Rattle.steps.specs.declared.Telling.{Telling}
 use Rattle.steps.specs.Answers.{refusing, refusing_all, is_refused}
 use Rattle.steps.specs.Ranges.{FitsStep}
 use Rattle.steps.specs.Reasons.{Clear, Broken, Applies, rank_of, here, later}
@@ -93,16 +92,13 @@ use Rattle.rules.proofs.Keeps as keeps
 use Rattle.rules.proofs.Shut as shut
 use Rattle.rules.proofs.Stamped as stamped
 use Rattle.rules.proofs.Results as rules_results
-use Rattle.frames.specs.declared.ReadStep.{ReadStep}
-use Rattle.frames.specs.declared.ReadStep.TheVariants as R
+use Rattle.std.proofs.Common.{Option, Some, None, Result, Ok, Err}
 use Rattle.frames.specs.Steps.{read_step, write_frame, write_step}
 use Rattle.frames.proofs.read_step.Reads as read_step_contract
 use Rattle.frames.proofs.write_step.Reads as write_step_contract
 use Rattle.frames.proofs.write_frame.Reads as write_frame_contract
 use Rattle.frames.proofs.Steps as frames
 use Rattle.frames.proofs.Results as frames_results
-use Rattle.answers.specs.declared.ReadAnswer.{ReadAnswer}
-use Rattle.answers.specs.declared.ReadAnswer.TheVariants as T
 use Rattle.answers.specs.Answers.{read_answer, write_answer, write_telling}
 use Rattle.answers.specs.Ranges.{FitsTelling}
 use Rattle.answers.proofs.read_answer.Reads as read_answer_contract
@@ -115,11 +111,10 @@ use Rattle.replay.specs.declared.Fed.{Fed}
 use Rattle.replay.specs.declared.Finished.{Finished}
 use Rattle.replay.specs.declared.Session.{Session}
 use Rattle.replay.specs.Texts.{record_after, answers, leaves, answer_to}
-use Rattle.lines.specs.declared.Reader.{Reader}
 use Rattle.lines.specs.Texts.{line_feed, lines, together, placed, rest_after}
-use Rattle.lines.specs.Turns.{DrainsBy}
+use Rattle.lines.specs.Turns.{End, DrainsBy}
 use Rattle.lines.specs.Held.{too_long}
-use Rattle.lines.specs.Readers.{width, fresh_reader, line_held, push_of, reader_after, reader_over, reader_for}
+use Rattle.lines.specs.Readers.{Reader, width, fresh_reader, line_held, push_of, reader_after, reader_over, reader_for}
 use Rattle.lines.specs.contracts.take as take_contract
 use Rattle.lines.proofs.Readers as readers
 use Rattle.lines.proofs.Results as lines_results
@@ -134,16 +129,17 @@ use Rattle.replay.proofs.Whole as whole
 use Rattle.replay.proofs.Parts as parts
 use Rattle.replay.proofs.Shown as shown
 use Rattle.replay.proofs.Results as replay_results
-use Rattle.orders.specs.declared.Ordered.{Ordered}
+use Rattle.orders.specs.declared.Orders.{Orders}
 use Rattle.orders.specs.Orders.{orders_in}
 use Rattle.orders.proofs.orders_in.Reads as orders_in_contract
-use Rattle.shell.specs.declared.Drained.{Drained}
 use Rattle.shell.proofs.Contracts as program
 use Rattle.shell.proofs.Loop as loop
 use Rattle.histories.specs.declared.PhoneRecord.{PhoneRecord}
 use Rattle.histories.specs.declared.Checked.{Checked}
 use Rattle.histories.specs.declared.Checked.TheVariants as checking
-use Rattle.histories.specs.Committed.{Committed, lent, entries_of, could_hold}
+use Rattle.histories.specs.Committed.{Committed, entries_of, could_hold}
+use Rattle.histories.specs.Lending.{lent_by}
+use Rattle.histories.specs.declared.committed.Columns.{Columns}
 use Rattle.histories.specs.Checking.{record_at, check_of}
 use Rattle.histories.specs.Reasons.{why_of, Because}
 use Rattle.histories.specs.declared.why.Reason.{Reason}
@@ -153,13 +149,11 @@ use Rattle.histories.proofs.kept.check_first.Reads as check_first_contract
 use Rattle.histories.proofs.Holding as holding
 use Rattle.histories.proofs.Judged as judged
 use Rattle.followed.specs.declared.Run.{Run}
-use Rattle.followed.specs.declared.Following.{Following}
-use Rattle.followed.specs.Follow.{followed_by, finished_run}
+use Rattle.followed.specs.Follow.{Following, followed_by, finished_run}
 use Rattle.followed.proofs.follow.Reads as follow_contract
 use Rattle.followed.proofs.finish.Reads as follow_finish_contract
 use Rattle.phones.specs.declared.Listed.{Listed}
-use Rattle.phones.specs.declared.Listing.{Listing}
-use Rattle.phones.specs.Listed.{listed_by, finished_list}
+use Rattle.phones.specs.Listed.{Listing, listed_by, finished_list}
 use Rattle.phones.proofs.list.Reads as list_contract
 use Rattle.phones.proofs.finish.Reads as list_finish_contract
 use Rattle.verdicts.specs.declared.Verdict.{Verdict}
@@ -171,8 +165,8 @@ use Rattle.histories.proofs.Reasons as reasons
 use Rattle.histories.proofs.Results as checked
 use borrow.Author.Tests.{le-ltb, lt-ltb, le-leb, ne_eqb}
 use native.Mathlib.Omega.{arith}
-use Rattle.saved.specs.declared.Saved.{Saved}
-use Rattle.saved.specs.declared.Saved.TheVariants as saving
+use Rattle.saved.specs.declared.NotSaved.{NotSaved}
+use Rattle.saved.specs.declared.NotSaved.TheVariants as saving
 use Rattle.saved.specs.Editions.{Edition, edition1, edition2, edition3, editions, newest, has_form}
 use Rattle.saved.specs.Saved.{all_frames, text_of, save_of}
 use Rattle.saved.specs.Shape.{named_in, shaped}
@@ -223,7 +217,7 @@ use Rattle.traces.proofs.pair_line.Reads as pair_line_contract
 use Rattle.traces.proofs.Keeping as traces
 use Rattle.trails.specs.declared.Wanted.{Wanted}
 use Rattle.trails.specs.declared.Lined.{Lined}
-use Rattle.trails.specs.declared.follow.Followed.{Followed}
+use Rattle.trails.specs.declared.follow.Trail.{Trail}
 use Rattle.trails.specs.Traces.{form_by, change_of, trace_of}
 use Rattle.trails.specs.Reading.{answers_in}
 use Rattle.trails.specs.Bytes.{lined_of, lined_out, begun_trail, trail_over, shown_over, shown_last, ended_trail}
@@ -328,7 +322,7 @@ the_twelve_hold = twelve.all_hold
 -- ---- demand 2: one fixed layout
 
 -- the frames that are read and written are those of the layout
-pub read_step_is : (κs : Lfts 1) (line : Bor (List ℕ)) (r : ReadStep) → read_step_contract.Learnt κs (line, tt) r (line, tt) → r ≡ read_step line.now
+pub read_step_is : (κs : Lfts 1) (line : Bor (List ℕ)) (r : Option Step) → read_step_contract.Learnt κs (line, tt) r (line, tt) → r ≡ read_step line.now
 read_step_is κs line r e = e
 
 pub write_step_is : (s : Step) (r : List ℕ) → write_step_contract.Learnt tt (s, tt) r (s, tt) → r ≡ write_step s
@@ -337,7 +331,7 @@ write_step_is s r e = e
 pub write_frame_is : (f : Frame) (r : List ℕ) → write_frame_contract.Learnt tt (f, tt) r (f, tt) → r ≡ write_frame f
 write_frame_is f r e = e
 
-pub read_answer_is : (κs : Lfts 1) (line : Bor (List ℕ)) (r : ReadAnswer) → read_answer_contract.Learnt κs (line, tt) r (line, tt)
+pub read_answer_is : (κs : Lfts 1) (line : Bor (List ℕ)) (r : Option Telling) → read_answer_contract.Learnt κs (line, tt) r (line, tt)
     → r ≡ read_answer line.now
 read_answer_is κs line r e = e
 
@@ -345,16 +339,16 @@ pub write_answer_is : (a : Answer) (r : List ℕ) → write_answer_contract.Lear
 write_answer_is a r e = e
 
 -- reading a written frame gives it back, and one step, or one answer, has one frame
-pub step_round_trip : (s : Step) → FitsStep s → read_step (write_step s) ≡ R.Step s
+pub step_round_trip : (s : Step) → FitsStep s → read_step (write_step s) ≡ Some s
 step_round_trip = frames.read_written_step
 
-pub one_frame_a_step : (line : List ℕ) (s : Step) → read_step line ≡ R.Step s → write_step s ≡ line
+pub one_frame_a_step : (line : List ℕ) (s : Step) → read_step line ≡ Some s → write_step s ≡ line
 one_frame_a_step = frames.written_read_step
 
-pub answer_round_trip : (t : Telling) → FitsTelling t → read_answer (write_telling t) ≡ T.Telling t
+pub answer_round_trip : (t : Telling) → FitsTelling t → read_answer (write_telling t) ≡ Some t
 answer_round_trip = tellings.read_written_telling
 
-pub one_frame_an_answer : (line : List ℕ) (t : Telling) → read_answer line ≡ T.Telling t → write_telling t ≡ line
+pub one_frame_an_answer : (line : List ℕ) (t : Telling) → read_answer line ≡ Some t → write_telling t ≡ line
 one_frame_an_answer = tellings.written_read_telling
 
 -- ---- demand 1: any text
@@ -427,7 +421,7 @@ pub only_the_line_is_left : (c : Cluster) (r q : Reader) (text : List ℕ) → l
 only_the_line_is_left = shown.only_line_left
 
 -- the orders are those of the text that was read, whatever it is
-pub orders_are : (κs : Lfts 1) (text : Bor (List ℕ)) (r : Ordered) → orders_in_contract.Learnt κs (text, tt) r (text, tt) → r ≡ orders_in text.now
+pub orders_are : (κs : Lfts 1) (text : Bor (List ℕ)) (r : Option Orders) → orders_in_contract.Learnt κs (text, tt) r (text, tt) → r ≡ orders_in text.now
 orders_are κs text r e = e
 
 -- the program's own functions do with a piece, a turn, a whole input, a text that is loaded and a run as ordered what their definitions say
@@ -435,10 +429,10 @@ pub the_program_is_as_defined : program.ProgramIs
 the_program_is_as_defined = program.program_is
 
 -- the program's loop goes through some pieces, whose answers and record those are
-pub program_says : (c : Cluster) (r : Drained) (d : DrainsBy runs (begun c) r.session r.end) → says_all (begun c) d.pieces ++ ending r.session ≡ answers c (together d.pieces)
+pub program_says : (c : Cluster) (s : Session) (e : End) (d : DrainsBy runs (begun c) s e) → says_all (begun c) d.pieces ++ ending s ≡ answers c (together d.pieces)
 program_says = loop.drained_says
 
-pub program_leaves : (c : Cluster) (r : Drained) (d : DrainsBy runs (begun c) r.session r.end) → ended r.session ≡ leaves c (together d.pieces)
+pub program_leaves : (c : Cluster) (s : Session) (e : End) (d : DrainsBy runs (begun c) s e) → ended s ≡ leaves c (together d.pieces)
 program_leaves = loop.drained_record
 
 -- ---- demand 3
@@ -500,16 +494,16 @@ a_count_is_retired c a count n term w l o m k =
 -- ---- saving and loading
 
 -- a well-formed record's saved form is written where the longest has room, an ill-formed one is refused with 2, and else the buffer is as it was
-pub save_is : (κs : Lfts 1) (c : Cluster) (out o : MutBor (List ℕ)) (r : Saved) → save_contract.Learnt κs (c, (out, tt)) r (c, (o, tt))
+pub save_is : (κs : Lfts 1) (c : Cluster) (out o : MutBor (List ℕ)) (r : Result ℕ NotSaved) → save_contract.Learnt κs (c, (out, tt)) r (c, (o, tt))
     → (r ≡ saved_of c (length out.now)) × (o.now ≡ saved_out c out.now)
 save_is κs c out o r e = e
 
 pub a_record_is_saved : (c : Cluster) (out : List ℕ) → well_formed c ≡ true → longest ≤ length out
-    → (saved_of c (length out) ≡ saving.Text (length (save_of c))) × (saved_out c out ≡ placed out 0 (save_of c))
+    → (saved_of c (length out) ≡ Ok (length (save_of c))) × (saved_out c out ≡ placed out 0 (save_of c))
 unfolding saved_of saved_out
 a_record_is_saved c out w l = (rw (w, le-ltb (length out) longest l), rw (w, le-ltb (length out) longest l))
 
-pub an_ill_formed_record_is_not : (c : Cluster) (out : List ℕ) → well_formed c ≡ false → (saved_of c (length out) ≡ saving.Refused IllFormed) × (saved_out c out ≡ out)
+pub an_ill_formed_record_is_not : (c : Cluster) (out : List ℕ) → well_formed c ≡ false → (saved_of c (length out) ≡ Err (saving.Refused IllFormed)) × (saved_out c out ≡ out)
 unfolding saved_of saved_out
 an_ill_formed_record_is_not c out w = (rw w, rw w)
 
@@ -518,7 +512,7 @@ unfolding save_of
 no_saved_form_is_longer c f w = saved_frames.saved_length c f w (newest).number
 
 -- in an edition that is known a record is saved where that has a form for it, and the newest has one for every well-formed record
-pub save_as_is : (κs : Lfts 1) (n : ℕ) (c : Cluster) (out o : MutBor (List ℕ)) (r : Saved) → save_as_contract.Learnt κs (n, (c, (out, tt))) r (n, (c, (o, tt)))
+pub save_as_is : (κs : Lfts 1) (n : ℕ) (c : Cluster) (out o : MutBor (List ℕ)) (r : Result ℕ NotSaved) → save_as_contract.Learnt κs (n, (c, (out, tt))) r (n, (c, (o, tt)))
     → (r ≡ saved_as_of n c (length out.now)) × (o.now ≡ saved_as_out n c out.now)
 save_as_is κs n c out o r e = e
 
@@ -622,16 +616,16 @@ no_phone_pushes_the_clocks = clocks.clocks_held
 
 -- the check that runs is the definition, whatever records and log are lent, and however they are kept; so are the run that is followed, the
 -- list that is read, the verdict, and the rule that is told
-pub check_is : {M : Type 1} {𝓤 : Ura M} (𝓛 : Logic 𝓤) (at_mem : Memory → SProp 𝓤) (run : Routine → Fun 𝓤) (κ : Lft)
-    (records : Bor (List PhoneRecord)) (terms keys values ps ls : Bor (List ℕ)) (r : Checked)
-    → (check_contract.clauses 𝓛 at_mem run (κ, tt) (records, (terms, (keys, (values, (ps, (ls, tt))))))).ensures tt r (records, (terms, (keys, (values, (ps, (ls, tt))))))
-    ≡ fact 𝓤 (r ≡ check_of records.now (lent terms.now keys.now values.now ps.now ls.now))
-check_is 𝓛 at_mem run κ records terms keys values ps ls r = checked.check_says records terms keys values ps ls 𝓛 at_mem run κ r
+pub check_is : {M : Type 1} {𝓤 : Ura M} (𝓛 : Logic 𝓤) (at_mem : Memory → SProp 𝓤) (run : Routine → Fun 𝓤) (κs : Lfts 2)
+    (records : Bor (List PhoneRecord)) (log : Columns) (r : Checked)
+    → (check_contract.clauses 𝓛 at_mem run κs (records, (log, tt))).ensures tt r (records, (log, tt))
+    ≡ fact 𝓤 (r ≡ check_of records.now (lent_by log))
+check_is 𝓛 at_mem run κs records log r = checked.check_says records log 𝓛 at_mem run κs r
 
-pub check_first_is : (κs : Lfts 1) (records : List PhoneRecord) (n : ℕ) (terms keys values ps ls : Bor (List ℕ)) (r : Checked)
-    → check_first_contract.Learnt κs (records, (n, (terms, (keys, (values, (ps, (ls, tt))))))) r (records, (n, (terms, (keys, (values, (ps, (ls, tt)))))))
-    → r ≡ check_of (take n records) (lent terms.now keys.now values.now ps.now ls.now)
-check_first_is κs records n terms keys values ps ls r e = e
+pub check_first_is : (κs : Lfts 1) (records : List PhoneRecord) (n : ℕ) (log : Columns) (r : Checked)
+    → check_first_contract.Learnt κs (records, (n, (log, tt))) r (records, (n, (log, tt)))
+    → r ≡ check_of (take n records) (lent_by log)
+check_first_is κs records n log r e = e
 
 pub follow_is : (κs : Lfts 1) (f : Following) (piece : Bor (List ℕ)) (r : Following) → follow_contract.Learnt κs (f, (piece, tt)) r (f, (piece, tt))
     → r ≡ followed_by f piece.now
@@ -704,7 +698,7 @@ order_passes_on = order.before_trans
 pub neither_before_is_one : (s t : Time) → is_before s t ≡ false → is_before t s ≡ false → s ≡ t
 neither_before_is_one = order.before_total
 
-pub a_tick_is_later : (wall : ℕ) (t u : Time) → tick_of wall t ≡ To u → is_before t u ≡ true
+pub a_tick_is_later : (wall : ℕ) (t u : Time) → tick_of wall t ≡ Some u → is_before t u ≡ true
 a_tick_is_later = ticks.tick_after
 
 -- equal entries are equal in all four parts
@@ -830,7 +824,7 @@ a_table_says_its_rule = tables.table_says
 pub a_length_is_kept : (n : ℕ) → n ≤ limit → number_of n ≡ n
 a_length_is_kept = numbers.number_kept
 
-pub what_is_read_fits : (line : List ℕ) (t : Telling) → read_answer line ≡ T.Telling t → FitsTelling t
+pub what_is_read_fits : (line : List ℕ) (t : Telling) → read_answer line ≡ Some t → FitsTelling t
 what_is_read_fits = tellings.read_telling_fits
 
 -- demand 2's reason, as a run: build 41 is covered, build 40 is not and is rolled back, and 41 is kept
@@ -878,15 +872,15 @@ pub put_line_is : (κs : Lfts 1) (w : Wanted) (n : ℕ) (c : Cluster) (k : CutLi
 put_line_is κs w n c k out o r e = e
 
 -- however a text is cut, what is shown on the way is its trace, and the record is the one that it leaves
-pub a_trace_is_the_same_in_pieces : (w : Wanted) (c : Cluster) (r : Followed) (d : DrainsBy trail_over (begun_trail c) r.trail r.end)
-    → shown_over w (begun_trail c) (together d.pieces) ++ shown_last w r.trail ≡ trace_of w c (together d.pieces)
-a_trace_is_the_same_in_pieces w c r d = trails.follows_trace c r d w
+pub a_trace_is_the_same_in_pieces : (w : Wanted) (c : Cluster) (t : Trail) (e : End) (d : DrainsBy trail_over (begun_trail c) t e)
+    → shown_over w (begun_trail c) (together d.pieces) ++ shown_last w t ≡ trace_of w c (together d.pieces)
+a_trace_is_the_same_in_pieces w c t e d = trails.follows_trace c t e d w
 
-pub a_traced_run_leaves_its_record : (c : Cluster) (r : Followed) (d : DrainsBy trail_over (begun_trail c) r.trail r.end) → ended_trail r.trail ≡ leaves c (together d.pieces)
+pub a_traced_run_leaves_its_record : (c : Cluster) (t : Trail) (e : End) (d : DrainsBy trail_over (begun_trail c) t e) → ended_trail t ≡ leaves c (together d.pieces)
 a_traced_run_leaves_its_record = trails.drained_record
 
 -- the answers of its pairs are the answer lines of the text in order
-pub the_pairs_have_the_answers : (w : Wanted) (c : Cluster) (text : List ℕ) → w.before ≡ 0 → w.last ≡ 0 → answers_in (lines (trace_of w c text)) ≡ answers c text
+pub the_pairs_have_the_answers : (w : Wanted) (c : Cluster) (text : List ℕ) → w.before ≡ 0 → w.last ≡ None → answers_in (lines (trace_of w c text)) ≡ answers c text
 the_pairs_have_the_answers = read_back.read_back
 
 -- a brief form is what the saved form of a well-formed record begins with

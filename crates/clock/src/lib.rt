@@ -4,17 +4,19 @@
 ghost use Rattle.std.specs.Prelude.{◌≡◌};
 ghost use Rattle.clock.specs.Times.{zero_time, is_before, same_time, later_of, tick_of};
 
-#[derive(Clone, Copy)]
+use std::fmt::{self, Display};
+
+#[derive(Clone, Copy, PartialEq, Eq, PartialOrd, Ord)]
 pub struct Time {
     pub p: u16,
     pub l: u16,
 }
 
-// A tick gives the new time, or l is at its limit where it must grow.
-#[derive(Clone, Copy)]
-pub enum Ticked {
-    To(Time),
-    AtLimit,
+impl Display for Time {
+    // A person reads a time as (p,l).
+    fn fmt<W: fmt::Write>(&self, f: &mut fmt::Formatter<W>) -> fmt::Result {
+        write!(f, "({},{})", self.p, self.l)
+    }
 }
 
 // Where terms, wall clocks, p and l end.
@@ -32,37 +34,29 @@ pub fn zero_time() -> Time
 pub fn is_before(s: Time, t: Time) -> bool
     ensures { result ≡ is_before s t }
 {
-    if s.p < t.p {
-        return true;
-    }
-    if s.p != t.p {
-        return false;
-    }
-    s.l < t.l
+    s < t
 }
 
 pub fn same_time(s: Time, t: Time) -> bool
     ensures { result ≡ same_time s t }
 {
-    s.p == t.p && s.l == t.l
+    s == t
 }
 
 // The later of both.
 pub fn later(s: Time, t: Time) -> Time
     ensures { result ≡ later_of s t }
 {
-    if is_before(s, t) { t } else { s }
+    s.max(t)
 }
 
-// The time after a tick at this wall clock, from the time t.
-pub fn tick(wall: u16, t: Time) -> Ticked
+// The time after a tick at this wall clock, from the time t; none where l is at its limit and must grow.
+pub fn tick(wall: u16, t: Time) -> Option<Time>
     ensures { result ≡ tick_of wall t }
 {
     if t.p < wall {
-        return Ticked::To(Time { p: wall, l: 0 });
+        return Some(Time { p: wall, l: 0 });
     }
-    if LIMIT <= t.l {
-        return Ticked::AtLimit;
-    }
-    Ticked::To(Time { p: t.p, l: t.l + 1 })
+    let l = t.l.checked_add(1)?;
+    Some(Time { l: l, ..t })
 }

@@ -1,5 +1,5 @@
 -- The fixed records of 01, and records with one server or all servers changed. Assumes nothing.
-use Rattle.std.specs.Prelude.{[], Bool, false, cond, ℕ, min, eqb, ltb, get_or, set, replicate}
+use Rattle.std.specs.Prelude.{[], Bool, false, cond, ℕ, min, eqb, ltb, get_or, set, replicate, None}
 use Rattle.base.specs.Lists.{each}
 use Rattle.clock.specs.declared.Time.{Time}
 use Rattle.clock.specs.Times.{zero_time}
@@ -13,8 +13,6 @@ use Rattle.mail.specs.Mails.{zero_mail, emptied}
 use Rattle.cluster.specs.declared.Head.{Head}
 use Rattle.cluster.specs.declared.Server.{Server}
 use Rattle.cluster.specs.declared.Cluster.{Cluster}
-use Rattle.cluster.specs.declared.Change.{Change}
-use Rattle.cluster.specs.declared.Change.TheVariants as C
 use Rattle.cluster.specs.Sets.{member, voters}
 
 -- a cluster has 2 to 7 servers
@@ -78,7 +76,7 @@ fresh_server = with_head zero_server (with_wall zero_head 1)
 abbrev pub past_server : Server
 past_server =
     with_rows
-    (with_mail (with_log zero_server (record { entries = []; len = 0 })) (record { notes = []; queue = record { reports = []; len = 0 }; source = 0 }))
+    (with_mail (with_log zero_server (record { entries = []; len = 0 })) (record { notes = []; queue = record { reports = []; len = 0 }; source = None }))
     (record { whole = record { values = [] }; committed = record { values = [] } })
 
 -- the server count, cut at seven so that it is one for every record
@@ -133,13 +131,3 @@ rowed_of s = with_rows s (rows_of s.log s.head.commit)
 
 abbrev pub rowed_all : Cluster → Cluster
 rowed_all c = record { count = c.count; followers = c.followers; servers = each (λ i. rowed_of) c.servers }
-
--- what a start, an election, agreeing clocks and rows worked out afresh make of server i, for the one loop behind them
-abbrev pub changed_of : Change → ℕ → Server → Server
-changed_of (C.Start n) = started_of n
-changed_of (C.Elect a m t) = voted_of a m t
-changed_of (C.Clock n w) = clocked_of n w
-changed_of C.Rowed = λ i. rowed_of
-
-abbrev pub changed_all : Change → Cluster → Cluster
-changed_all k c = record { count = c.count; followers = c.followers; servers = each (changed_of k) c.servers }

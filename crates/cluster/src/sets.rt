@@ -1,5 +1,5 @@
 // Sets of servers, as masks: bit i is server i; and which servers vote.
-ghost use Rattle.std.specs.Prelude.{◌≡◌, ◌&&◌};
+ghost use Rattle.std.specs.Prelude.{◌≡◌};
 ghost use Rattle.cluster.specs.Sets.{member, members_of, is_within, is_apart, votes, voters, is_majority};
 
 // How many bits a mask has.
@@ -9,10 +9,7 @@ const BITS: usize = 8;
 pub fn is_member(set: u8, i: usize) -> bool
     ensures { result ≡ member set i }
 {
-    if BITS <= i {
-        return false;
-    }
-    (set >> i) % 2 == 1
+    i < BITS && (set >> i) % 2 == 1
 }
 
 // How many members the set has.
@@ -26,34 +23,14 @@ pub fn members(set: u8) -> usize
 pub fn within(set: u8, n: usize) -> bool
     ensures { result ≡ is_within set n }
 {
-    if BITS <= n {
-        return true;
-    }
-    set >> n == 0
-}
-
-// Whether server i is in both sets.
-fn in_both(a: u8, b: u8, i: usize) -> bool
-    ensures { result ≡ (member a i && member b i) }
-{
-    if !is_member(a, i) {
-        return false;
-    }
-    is_member(b, i)
+    BITS <= n || set >> n == 0
 }
 
 // Whether no member is a follower.
 pub fn apart(set: u8, followers: u8) -> bool
     ensures { result ≡ is_apart set followers }
 {
-    let mut i = 0;
-    while i < BITS {
-        if in_both(set, followers, i) {
-            return false;
-        }
-        i += 1;
-    }
-    true
+    (0..BITS).all(|i| !(is_member(set, i) && is_member(followers, i)))
 }
 
 // Whether server i votes: it is no follower.
@@ -67,15 +44,7 @@ pub fn does_vote(followers: u8, i: usize) -> bool
 pub fn voters(n: usize, followers: u8) -> usize
     ensures { result ≡ voters n followers }
 {
-    let mut k = 0;
-    let mut i = 0;
-    while i < n {
-        if does_vote(followers, i) {
-            k += 1;
-        }
-        i += 1;
-    }
-    k
+    (0..n).filter(|i| does_vote(followers, *i)).count()
 }
 
 // Whether twice the number of members exceeds the number of voters.

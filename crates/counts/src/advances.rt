@@ -1,7 +1,6 @@
 // Kind 7: a advances its commit point.
-ghost use Rattle.std.specs.Prelude.{◌≡◌, ◌&&◌, min};
+ghost use Rattle.std.specs.Prelude.{◌≡◌, min};
 ghost use Rattle.cluster.specs.Servers.{most_servers};
-ghost use Rattle.cluster.specs.Sets.{votes};
 ghost use Rattle.counts.specs.Advances.{backs, highest_passing, advances_of};
 
 use cluster::{Cluster, Head, Server};
@@ -12,28 +11,8 @@ use steps::{Answer, Outcome, Refusal};
 pub fn does_back(s: Server, a: usize, n: usize, i: usize) -> bool
     ensures { result ≡ backs s a n i }
 {
-    if i == a {
-        return true;
-    }
-    let m = s.mail;
-    let note = mail::note_at(m, i);
-    if note.term != s.head.term {
-        return false;
-    }
-    if note.last != s.head.term {
-        return false;
-    }
-    n <= note.len as usize
-}
-
-// Whether server i votes, and counts for position n at s.
-fn is_backer(followers: u8, s: Server, a: usize, n: usize, i: usize) -> bool
-    ensures { result ≡ (votes followers i && backs s a n i) }
-{
-    if !cluster::sets::does_vote(followers, i) {
-        return false;
-    }
-    does_back(s, a, n, i)
+    let note = mail::note_at(s.mail, i);
+    i == a || (note.term == s.head.term && note.last == s.head.term && n <= usize::from(note.len))
 }
 
 // The highest position that passes at s, which is server a where so many are counted and these are the followers, looked for from the log's end; 0
@@ -43,29 +22,21 @@ pub fn highest_passing(count: usize, followers: u8, s: Server, a: usize) -> usiz
 {
     let size = cluster::server_count(count);
     let voters = cluster::sets::voters(size, followers);
-    let g = s.log;
-    let mut n = server_log::length_of(g);
-    let found = loop {
+    let mut n = server_log::length_of(s.log);
+    // Kept: docs/FORMS.md names this loop that goes down to a `break`, and `passing_passes` speaks of 0 where none passes.
+    loop {
         if n <= s.head.commit {
             break 0;
         }
-        let mut k = 0;
-        let mut i = 0;
-        while i < size {
-            if is_backer(followers, s, a, n, i) {
-                k += 1;
-            }
-            i += 1;
-        }
-        let e = server_log::entry_at(g, n);
-        if e.term == s.head.term {
-            if voters < k * 2 {
-                break n;
-            }
+        let backers = (0..size)
+            .filter(|i| cluster::sets::does_vote(followers, *i) && does_back(s, a, n, *i))
+            .count();
+        let e = server_log::entry_at(s.log, n);
+        if e.term == s.head.term && voters < backers * 2 {
+            break n;
         }
         n -= 1;
-    };
-    found
+    }
 }
 
 pub fn advances(c: Cluster, a: usize) -> Outcome
@@ -82,14 +53,14 @@ pub fn advances(c: Cluster, a: usize) -> Outcome
     if n < 1 {
         return steps::refuse_all(c, Refusal::ConditionUnmet);
     }
-    let h = s.head;
-    let g = s.log;
-    let rows = s.rows;
     let t = Server {
-        head: Head { commit: n, ..h },
+        head: Head {
+            commit: n,
+            ..s.head
+        },
         rows: Rows {
-            committed: cluster::committed_to(s, g, n),
-            ..rows
+            committed: cluster::committed_to(s, s.log, n),
+            ..s.rows
         },
         ..s
     };

@@ -1,4 +1,4 @@
 // What counts servers: kind 7.
-#![tactic(auto)]
+#![tactic(auto, unfolding(crate::specs::Advances::backs))]
 
 pub mod advances;

@@ -14,7 +14,7 @@ use Rattle.cluster.specs.declared.Head.{Head}
 use Rattle.cluster.specs.declared.Server.{Server}
 use Rattle.cluster.specs.declared.Cluster.{Cluster}
 use Rattle.steps.specs.declared.Step.{Step}
-use Rattle.steps.specs.declared.Telling.{Telling}
+use Rattle.steps.specs.Answers.{Telling}
 use Rattle.fits.proofs.time_fits.Reads as time_fits_reads
 use Rattle.fits.proofs.entry_fits.Reads as entry_fits_reads
 use Rattle.fits.proofs.log_fits.Reads as log_fits_reads

@@ -12,22 +12,21 @@ use Rattle.server_log.specs.Logs.{empty_log, live}
 use Rattle.cluster.specs.declared.Cluster.{Cluster}
 use Rattle.cluster.specs.Servers.{zero_cluster}
 use Rattle.steps.specs.declared.Outcome.{Outcome}
-use Rattle.frames.specs.declared.ReadStep.{ReadStep}
-use Rattle.frames.specs.declared.ReadStep.TheVariants.{NoFrame}
+use Rattle.steps.specs.declared.Step.{Step}
+use Rattle.std.proofs.Common.{Option, None}
 use Rattle.frames.specs.Layout.{step_bytes}
 use Rattle.frames.specs.Steps.{step_in, read_step}
 use Rattle.histories.specs.Longest.{longer_of, longest_of}
-use Rattle.lines.specs.declared.Reader.{Reader}
 use Rattle.lines.specs.Texts.{lines, one_more}
 use Rattle.replay.specs.Texts.{respond, answer_to, record_after, records_on}
-use Rattle.lines.specs.Readers.{width, line_held}
+use Rattle.lines.specs.Readers.{Reader, width, line_held}
 use Rattle.lines.specs.Folds.{over_lines}
 use Rattle.lines.proofs.Readers.{StandsFor}
-use Rattle.lines.proofs.Folded.{reader_append, bytes_append, lines_append, folded}
+use Rattle.lines.proofs.Folded.{lines_append}
+use Rattle.lines.proofs.Walked.{walked_text, walked_append}
 use Rattle.followed.specs.declared.Run.{Run}
-use Rattle.followed.specs.declared.Following.{Following}
 use Rattle.followed.specs.Longest.{kept_log}
-use Rattle.followed.specs.Follow.{begins, new_run, run_after_read, run_after_line, run_followed, NoneStarts, new_following, followed_by, finished_run}
+use Rattle.followed.specs.Follow.{begins, new_run, run_after_read, run_after_line, run_followed, NoneStarts, Following, new_following, followed_by, finished_run}
 use Rattle.followed.proofs.Covering.{kept_live}
 
 -- ---- however the text is cut
@@ -35,15 +34,15 @@ use Rattle.followed.proofs.Covering.{kept_live}
 -- a line that is held reads as the one that it stands for
 same : (r : Run) (d : Reader) (p : List ℕ) → StandsFor d p → run_after_line r (line_held d) ≡ run_after_line r p
 unfolding line_held
-same r d p h = ap (run_after_read r) (held_framed step_bytes step_in NoFrame width (omega arith) d.held d.fill d.over h)
+same r d p h = ap (run_after_read r) (held_framed step_bytes step_in None width (omega arith) d.held d.fill d.over h)
 
 -- THE THEOREM: at the end, a text that was followed is its run
 pub followed_text : (text : List ℕ) → finished_run (followed_by new_following text) ≡ run_followed text
-followed_text text = folded run_after_line same new_run text
+followed_text text = walked_text run_after_line same new_run text
 
 -- two pieces are followed like the text that they are
 pub followed_append : (f : Following) (x y : List ℕ) → followed_by f (x ++ y) ≡ followed_by (followed_by f x) y
-followed_append f x y = cc (bytes_append run_after_line f.run f.reader x y, reader_append f.reader x y)
+followed_append f x y = walked_append run_after_line f x y
 
 -- ---- what a line does
 
@@ -75,7 +74,7 @@ unfolding run_after_read answer_to
 goes_on r l e = rw e (kept_live r.longest (respond r.cluster (read_step l)).cluster)
 
 -- for the code
-module _ (r : Run) (read : ReadStep) (o : Outcome) (g : Log) (p : o ≡ respond r.cluster read) where
+module _ (r : Run) (read : Option Step) (o : Outcome) (g : Log) (p : o ≡ respond r.cluster read) where
   pub after_start : (e : Log) (n : ℕ) → begins read o.answer ≡ true → e ≡ empty_log → g ≡ kept_log e o.cluster → n ≡ one_more r.starts
       → ◌≡◌ {A = Run} (record { cluster = o.cluster; longest = g; starts = n }) (run_after_read r read)
   unfolding run_after_read

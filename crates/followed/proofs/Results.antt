@@ -6,9 +6,8 @@ use Prim.Native.Nat.{ℕ}
 use Rattle.base.proofs.Results.{OneResult, one_result}
 use Rattle.server_log.specs.declared.Log.{Log}
 use Rattle.cluster.specs.declared.Cluster.{Cluster}
-use Rattle.followed.specs.declared.Following.{Following}
 use Rattle.followed.specs.Longest.{kept_log}
-use Rattle.followed.specs.Follow.{new_following, followed_by, finished_run}
+use Rattle.followed.specs.Follow.{Following, new_following, followed_by, finished_run}
 use Rattle.followed.proofs.longest.longer.Reads as longer_reads
 use Rattle.followed.proofs.begin.Reads as begin_reads
 use Rattle.followed.proofs.follow.Reads as follow_reads

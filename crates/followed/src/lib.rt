@@ -1,15 +1,15 @@
 // A run that is followed line by line: the record, the longest beginning that was covered since the last start that succeeded, and how
 // many starts have.
-#![tactic(auto)]
+#![tactic(auto, unfolding(crate::specs::Longest::longer_log, crate::specs::Follow::run_after_read))]
 
 ghost use Rattle.std.specs.Prelude.{◌≡◌};
-ghost use Rattle.followed.specs.Follow.{is_done, begins, run_after_read, new_following, followed_by, finished_run};
+ghost use Rattle.followed.specs.Follow.{is_done, begins, run_after_read, run_after_line, new_following, followed_by, finished_run};
 
 use cluster::Cluster;
-use frames::ReadStep;
 use lines::Reader;
+use lines::walks::{self, ByLines, Walk};
 use server_log::Log;
-use steps::Answer;
+use steps::{Answer, Step};
 
 pub mod longest;
 
@@ -21,105 +21,72 @@ pub struct Run {
 }
 
 // A run, and the line that is being read.
-#[derive(Clone, Copy)]
-pub struct Following {
-    pub run: Run,
-    pub reader: Reader,
+pub type Following = Walk<Run>;
+
+impl ByLines for Run {
+    ghost after = { run_after_line };
+
+    fn line(self, held: Reader) -> Run {
+        after_line(self, replay::step_held(held))
+    }
 }
 
 // Before the first line.
 pub fn begin() -> Following
     ensures { result ≡ new_following }
 {
-    Following {
-        run: Run {
-            cluster: cluster::zero_cluster(),
-            longest: server_log::empty_log(),
-            starts: 0,
-        },
-        reader: lines::fresh_reader(),
-    }
+    walks::begin(Run {
+        cluster: cluster::zero_cluster(),
+        longest: server_log::empty_log(),
+        starts: 0,
+    })
 }
 
 fn is_done(a: Answer) -> bool
     ensures { result ≡ is_done a }
 {
-    match a {
-        Answer::Done => true,
-        Answer::Elected(_) => false,
-        Answer::Reached(_) => false,
-        Answer::Entry(_, _, _) => false,
-        Answer::Value(_, _) => false,
-        Answer::Refused(_) => false,
-    }
+    matches!(a, Answer::Done)
 }
 
 // Whether a line that reads so, and is answered so, is a start that succeeds.
-fn begins(read: ReadStep, a: Answer) -> bool
+fn begins(read: Option<Step>, a: Answer) -> bool
     ensures { result ≡ begins read a }
 {
-    let ReadStep::Step(s) = read else {
-        return false;
-    };
-    if !rules::is_start(s) {
-        return false;
+    match read {
+        Some(s) => rules::is_start(s) && is_done(a),
+        None => false,
     }
-    is_done(a)
 }
 
 // The run after a line that reads so. A start that succeeds begins it anew.
-fn after_line(r: Run, read: ReadStep) -> Run
+fn after_line(r: Run, read: Option<Step>) -> Run
     ensures { result ≡ run_after_read r read }
 {
-    let c = r.cluster;
-    let o = replay::respond_to(c, read);
-    let d = o.cluster;
-    let answer = o.answer;
-    if begins(read, answer) {
+    let o = replay::respond_to(r.cluster, read);
+    if begins(read, o.answer) {
         return Run {
-            cluster: d,
-            longest: longest::longer(server_log::empty_log(), d),
+            cluster: o.cluster,
+            longest: longest::longer(server_log::empty_log(), o.cluster),
             starts: lines::one_more(r.starts),
         };
     }
-    let kept = r.longest;
     Run {
-        cluster: d,
-        longest: longest::longer(kept, d),
-        starts: r.starts,
+        cluster: o.cluster,
+        longest: longest::longer(r.longest, o.cluster),
+        ..r
     }
 }
 
-// The run after one piece more of the text. It stays in a local, so that only a line copies it.
+// The run after one piece more of the text.
 pub fn follow(f: Following, piece: &[u8]) -> Following
     ensures { result ≡ followed_by f piece.now }
 {
-    let mut run = f.run;
-    let mut reader = f.reader;
-    let mut i: usize = 0;
-    while i < piece.len() {
-        let b = piece[i];
-        i += 1;
-        if b == lines::LINE_FEED {
-            let read = replay::step_held(reader);
-            run = after_line(run, read);
-        }
-        reader = lines::taken(reader, b);
-    }
-    Following {
-        run: run,
-        reader: reader,
-    }
+    walks::go_on(f, piece)
 }
 
 // The run at the end of the text, where a rest without a line feed counts if it isn't empty.
 pub fn finish(f: Following) -> Run
     ensures { result ≡ finished_run f }
 {
-    let run = f.run;
-    let reader = f.reader;
-    if lines::is_empty(reader) {
-        return run;
-    }
-    after_line(run, replay::step_held(reader))
+    walks::finish(f)
 }

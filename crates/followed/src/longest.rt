@@ -9,13 +9,11 @@ use server_log::Log;
 fn cut(s: Server) -> Log
     ensures { result ≡ cut_log s }
 {
-    let g = s.log;
-    let n = server_log::length_of(g);
-    let commit = s.head.commit;
-    if commit < n {
-        return Log { len: commit, ..g };
+    let n = server_log::length_of(s.log);
+    Log {
+        len: s.head.commit.min(n),
+        ..s.log
     }
-    Log { len: n, ..g }
 }
 
 // The longer of both, the first where neither is.
@@ -32,17 +30,11 @@ fn longer_of(g: Log, h: Log) -> Log
 pub fn longer(kept: Log, c: Cluster) -> Log
     ensures { result ≡ kept_log kept c }
 {
-    let count = c.count;
+    let n = cluster::server_count(c.count);
     let mut g = kept;
-    let mut i: usize = 0;
-    while i < cluster::MOST_SERVERS {
-        if count <= i {
-            return g;
-        }
-        let s = c.servers[i];
-        let h = cut(s);
+    for s in &c.servers[..n] {
+        let h = cut(*s);
         g = longer_of(g, h);
-        i += 1;
     }
     g
 }

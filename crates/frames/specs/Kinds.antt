@@ -1,51 +1,50 @@
 -- The step that a frame of each kind makes, and which bytes must be zero then. Assumes nothing.
-use Rattle.std.specs.Prelude.{Bool, true, cond, ◌&&◌, List, [], ◌∷◌, ℕ, ◌-◌, ◌/◌, ◌%◌, ◌^◌, eqb, ltb, get_or}
+use Rattle.std.specs.Prelude.{Bool, true, cond, ◌&&◌, List, [], ◌∷◌, ℕ, ◌-◌, ◌/◌, ◌%◌, ◌^◌, eqb, ltb, get_or, Option, Some, None}
 use Rattle.base.specs.Numbers.{byte, every}
 use Rattle.clock.specs.Times.{limit, zero_time}
 use Rattle.steps.specs.declared.Frame.{Frame}
 use Rattle.steps.specs.declared.Step.TheVariants.{Start, Elect, StepDown, Hears, Pulls, RollsBack, Writes, Advances, WallClock, Restarts, LocalRead, MajorityRead, Acknowledged, ClocksAgree, WritesNothing, NewestRead, TakesReport}
 use Rattle.steps.specs.Fields.{fields, frame_for}
 use Rattle.words.specs.Words.{byte_at}
-use Rattle.frames.specs.declared.ReadStep.{ReadStep}
-use Rattle.frames.specs.declared.ReadStep.TheVariants as R
+use Rattle.steps.specs.declared.Step.{Step}
 use Rattle.frames.specs.Layout.{step_bytes, bytes_of_frame}
 
 abbrev pub kinds : ℕ
 kinds = 17
 
 -- the step that each kind makes of the fields that it uses, from kind 0 to 16
-abbrev pub steps_of : Frame → List ReadStep
+abbrev pub steps_of : Frame → List (Option Step)
 steps_of f =
-    R.Step (Start f.a f.set)
-    ∷ R.Step (Elect f.a f.set)
-    ∷ R.Step (StepDown f.a)
-    ∷ R.Step (Hears f.a f.b)
-    ∷ R.Step (Pulls f.a f.b)
-    ∷ R.Step (RollsBack f.a f.b)
-    ∷ R.Step (Writes f.a f.key f.number f.time)
-    ∷ R.Step (Advances f.a)
-    ∷ R.Step (WallClock f.a)
-    ∷ R.Step (Restarts f.a)
-    ∷ R.Step (LocalRead f.a f.key f.time)
-    ∷ R.Step (MajorityRead f.a f.key f.time)
-    ∷ R.Step (Acknowledged f.a f.set f.number f.term)
-    ∷ R.Step ClocksAgree
-    ∷ R.Step (WritesNothing f.a)
-    ∷ R.Step (NewestRead f.a f.key f.number f.term)
-    ∷ R.Step (TakesReport f.a)
+    Some (Start f.a f.set)
+    ∷ Some (Elect f.a f.set)
+    ∷ Some (StepDown f.a)
+    ∷ Some (Hears f.a f.b)
+    ∷ Some (Pulls f.a f.b)
+    ∷ Some (RollsBack f.a f.b)
+    ∷ Some (Writes f.a f.key f.number f.time)
+    ∷ Some (Advances f.a)
+    ∷ Some (WallClock f.a)
+    ∷ Some (Restarts f.a)
+    ∷ Some (LocalRead f.a f.key f.time)
+    ∷ Some (MajorityRead f.a f.key f.time)
+    ∷ Some (Acknowledged f.a f.set f.number f.term)
+    ∷ Some ClocksAgree
+    ∷ Some (WritesNothing f.a)
+    ∷ Some (NewestRead f.a f.key f.number f.term)
+    ∷ Some (TakesReport f.a)
     ∷ []
 
 -- an unknown kind is no frame
-unfoldable pub step_of_frame : Frame → ReadStep
-step_of_frame f = get_or (steps_of f) f.kind R.NoFrame
+unfoldable pub step_of_frame : Frame → Option Step
+step_of_frame f = get_or (steps_of f) f.kind None
 
 -- a frame of the kind with every other field at its highest, and what its step fills of it
 abbrev pub full_of : ℕ → Frame
 full_of kind = fields kind (byte - 1) (byte - 1) (byte - 1) (byte - 1) limit limit (record { p = limit; l = limit })
 
-abbrev pub filled_of : ReadStep → Frame
-filled_of (R.Step s) = frame_for s
-filled_of R.NoFrame = fields 0 0 0 0 0 0 0 zero_time
+abbrev pub filled_of : Option Step → Frame
+filled_of (Some s) = frame_for s
+filled_of None = fields 0 0 0 0 0 0 0 zero_time
 
 -- a byte must be zero where the kind doesn't use it: it is not the kind's own, and it is zero even where every field was full
 abbrev pub must_be_zero : ℕ → ℕ → Bool

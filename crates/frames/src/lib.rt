@@ -9,16 +9,10 @@ ghost use Rattle.frames.specs.Steps.{step_in, read_step, write_frame, write_step
 
 use clock::{Time, ZERO_TIME};
 use steps::{Frame, Step};
+use words::line::{read_bytes, write_bytes};
 use words::{high, low, word};
 
 mod masks;
-
-// What a line is read as: the step whose frame it is, or no frame.
-#[derive(Clone, Copy)]
-pub enum ReadStep {
-    Step(Step),
-    NoFrame,
-}
 
 const STEP_BYTES: usize = 13;
 
@@ -26,6 +20,8 @@ const STEP_BYTES: usize = 13;
 pub const STEP_CHARS: usize = hex_text::CHARS * STEP_BYTES;
 
 // The kinds' numbers.
+// Kept: `Step` is the enum of the kinds; another one without fields would list all of them once more in its TryFrom, beside `step_of` and `frame_for`,
+// which each name a number once.
 const START: u8 = 0;
 
 const ELECT: u8 = 1;
@@ -60,81 +56,79 @@ const NEWEST_READ: u8 = 15;
 
 const TAKES_REPORT: u8 = 16;
 
+#[tactic(auto, unfolding(crate::specs::Layout::frame_of))]
 fn frame_of(b: [u8; STEP_BYTES]) -> Frame
     ensures { result ≡ frame_of b }
 {
-    let number = word(b[5], b[6]);
-    let term = word(b[7], b[8]);
-    let p = word(b[9], b[10]);
-    let l = word(b[11], b[12]);
-    let time = Time { p, l };
-    fields(b[0], b[1], b[2], b[3], b[4], number, term, time)
+    Frame {
+        kind: b[0],
+        a: b[1],
+        b: b[2],
+        set: b[3],
+        key: b[4],
+        number: word(b[5], b[6]),
+        term: word(b[7], b[8]),
+        time: Time {
+            p: word(b[9], b[10]),
+            l: word(b[11], b[12]),
+        },
+    }
 }
 
 // The step that the kind makes of the fields that it uses.
-fn step_of(f: Frame) -> ReadStep
+#[tactic(auto, unfolding(crate::specs::Kinds::step_of_frame))]
+fn step_of(f: Frame) -> Option<Step>
     ensures { result ≡ step_of_frame f }
 {
-    let kind = f.kind;
-    let t = f.time;
-    match kind {
-        START => ReadStep::Step(Step::Start(f.a, f.set)),
-        ELECT => ReadStep::Step(Step::Elect(f.a, f.set)),
-        STEP_DOWN => ReadStep::Step(Step::StepDown(f.a)),
-        HEARS => ReadStep::Step(Step::Hears(f.a, f.b)),
-        PULLS => ReadStep::Step(Step::Pulls(f.a, f.b)),
-        ROLLS_BACK => ReadStep::Step(Step::RollsBack(f.a, f.b)),
-        WRITES => ReadStep::Step(Step::Writes(f.a, f.key, f.number, t)),
-        ADVANCES => ReadStep::Step(Step::Advances(f.a)),
-        WALL_CLOCK => ReadStep::Step(Step::WallClock(f.a)),
-        RESTARTS => ReadStep::Step(Step::Restarts(f.a)),
-        LOCAL_READ => ReadStep::Step(Step::LocalRead(f.a, f.key, t)),
-        MAJORITY_READ => ReadStep::Step(Step::MajorityRead(f.a, f.key, t)),
-        ACKNOWLEDGED => ReadStep::Step(Step::Acknowledged(f.a, f.set, f.number, f.term)),
-        CLOCKS_AGREE => ReadStep::Step(Step::ClocksAgree),
-        WRITES_NOTHING => ReadStep::Step(Step::WritesNothing(f.a)),
-        NEWEST_READ => ReadStep::Step(Step::NewestRead(f.a, f.key, f.number, f.term)),
-        TAKES_REPORT => ReadStep::Step(Step::TakesReport(f.a)),
-        _ => ReadStep::NoFrame,
+    match f.kind {
+        START => Some(Step::Start(f.a, f.set)),
+        ELECT => Some(Step::Elect(f.a, f.set)),
+        STEP_DOWN => Some(Step::StepDown(f.a)),
+        HEARS => Some(Step::Hears(f.a, f.b)),
+        PULLS => Some(Step::Pulls(f.a, f.b)),
+        ROLLS_BACK => Some(Step::RollsBack(f.a, f.b)),
+        WRITES => Some(Step::Writes(f.a, f.key, f.number, f.time)),
+        ADVANCES => Some(Step::Advances(f.a)),
+        WALL_CLOCK => Some(Step::WallClock(f.a)),
+        RESTARTS => Some(Step::Restarts(f.a)),
+        LOCAL_READ => Some(Step::LocalRead(f.a, f.key, f.time)),
+        MAJORITY_READ => Some(Step::MajorityRead(f.a, f.key, f.time)),
+        ACKNOWLEDGED => Some(Step::Acknowledged(f.a, f.set, f.number, f.term)),
+        CLOCKS_AGREE => Some(Step::ClocksAgree),
+        WRITES_NOTHING => Some(Step::WritesNothing(f.a)),
+        NEWEST_READ => Some(Step::NewestRead(f.a, f.key, f.number, f.term)),
+        TAKES_REPORT => Some(Step::TakesReport(f.a)),
+        _ => None,
     }
 }
 
 // The step whose frame has these bytes.
-fn step_in(b: [u8; STEP_BYTES]) -> ReadStep
+fn step_in(b: [u8; STEP_BYTES]) -> Option<Step>
     ensures { result ≡ step_in b }
 {
-    let kind = b[0] as usize;
-    if masks::KINDS <= kind {
-        return ReadStep::NoFrame;
-    }
-    if !masks::is_clean(kind, b) {
-        return ReadStep::NoFrame;
+    let kind = usize::from(b[0]);
+    if masks::KINDS <= kind || !masks::is_clean(kind, b) {
+        return None;
     }
     step_of(frame_of(b))
 }
 
 // The step whose frame the line is, of any bytes and of any length.
-pub fn read_step(line: &[u8]) -> ReadStep
+#[tactic(auto, using(words::proofs::Framed::framed_none, words::proofs::Framed::framed_some))]
+pub fn read_step(line: &[u8]) -> Option<Step>
     ensures { result ≡ read_step line.now }
 {
-    if line.len() != STEP_CHARS {
-        return ReadStep::NoFrame;
-    }
-    if !hex_text::all_hex(line) {
-        return ReadStep::NoFrame;
-    }
-    let mut b = [0u8; STEP_BYTES];
-    hex_text::unhex(line, &mut b);
-    step_in(b)
+    step_in(read_bytes(line)?)
 }
 
 // The same of characters that are as many as a step frame's.
-pub fn read_frame(chars: [u8; STEP_CHARS]) -> ReadStep
+pub fn read_frame(chars: [u8; STEP_CHARS]) -> Option<Step>
     ensures { result ≡ read_step chars }
 {
     read_step(&chars)
 }
 
+// Kept: written as `Frame { kind: HEARS, a, b, ..ZERO_FRAME }` an arm of `frame_for` takes six lines, and the whole more than forty.
 fn fields(kind: u8, a: u8, b: u8, set: u8, key: u8, number: u16, term: u16, time: Time) -> Frame
     ensures { result ≡ fields kind a b set key number term time }
 {
@@ -184,10 +178,10 @@ pub fn frame_for(s: Step) -> Frame
     }
 }
 
+#[tactic(auto, unfolding(crate::specs::Layout::bytes_of_frame))]
 fn bytes_of_frame(f: Frame) -> [u8; STEP_BYTES]
     ensures { result ≡ bytes_of_frame f }
 {
-    let t = f.time;
     [
         f.kind,
         f.a,
@@ -198,10 +192,10 @@ fn bytes_of_frame(f: Frame) -> [u8; STEP_BYTES]
         low(f.number),
         high(f.term),
         low(f.term),
-        high(t.p),
-        low(t.p),
-        high(t.l),
-        low(t.l),
+        high(f.time.p),
+        low(f.time.p),
+        high(f.time.l),
+        low(f.time.l),
     ]
 }
 
@@ -209,10 +203,7 @@ fn bytes_of_frame(f: Frame) -> [u8; STEP_BYTES]
 pub fn write_frame(f: Frame) -> [u8; STEP_CHARS]
     ensures { result ≡ write_frame f }
 {
-    let b = bytes_of_frame(f);
-    let mut out = [0u8; STEP_CHARS];
-    hex_text::enhex(&b, &mut out);
-    out
+    write_bytes(bytes_of_frame(f))
 }
 
 // The one frame of a step.

@@ -27,11 +27,7 @@ fn byte_ok(kind: usize, i: usize, b: u8) -> bool
     requires { (kind < kinds) × (i < step_bytes) }
     ensures { result ≡ byte_ok kind i b }
 {
-    if must_be_zero(MUST_BE_ZERO, kind, i) {
-        b == 0
-    } else {
-        true
-    }
+    !must_be_zero(MUST_BE_ZERO, kind, i) || b == 0
 }
 
 // Whether every byte that the kind doesn't use is zero.
@@ -39,12 +35,5 @@ pub(crate) fn is_clean(kind: usize, b: [u8; STEP_BYTES]) -> bool
     requires { kind < kinds }
     ensures { result ≡ is_clean kind b }
 {
-    let mut i: usize = 0;
-    while i < STEP_BYTES {
-        if !byte_ok(kind, i, b[i]) {
-            return false;
-        }
-        i += 1;
-    }
-    true
+    (0..STEP_BYTES).all(|i| byte_ok(kind, i, b[i]))
 }

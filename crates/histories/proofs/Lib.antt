@@ -2,7 +2,6 @@
 pub mod Lent
 pub mod Searching
 pub mod Breakers
-pub mod Carrying
 pub mod Judged
 pub mod Exactly
 pub mod Holding

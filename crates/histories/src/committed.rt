@@ -1,155 +1,118 @@
 // A committed log, lent as five slices of numbers, one a field.
-ghost use Rattle.std.specs.Prelude.{◌≡◌, ◌≤◌, min, length};
+ghost use Rattle.std.specs.Prelude.{◌≡◌, ◌≤◌, length};
 ghost use Rattle.server_log.specs.Entries.{entry_at};
 ghost use Rattle.server_log.specs.Order.{in_order};
 ghost use Rattle.clock.specs.Times.{limit};
-ghost use Rattle.histories.specs.Committed.{lent, entries_of, same_lengths, could_hold};
+ghost use Rattle.histories.specs.Lending.{lent_by, lent_log};
+ghost use Rattle.histories.specs.Committed.{same_lengths, could_hold};
 ghost use Rattle.histories.specs.Rules.{known_time, readable, value_at};
 
 use clock::Time;
 use server_log::Entry;
 
-pub(crate) fn lesser(x: usize, y: usize) -> usize
-    ensures { result ≡ min x y }
-{
-    if x < y { x } else { y }
+// Kept: five slices and not one of entries, since five can have different lengths, and such a log is refused (`could_hold`).
+#[derive(Clone, Copy)]
+pub struct Columns<'a> {
+    pub terms: &'a [u16],
+    pub keys: &'a [u8],
+    pub values: &'a [u16],
+    pub ps: &'a [u16],
+    pub ls: &'a [u16],
 }
 
-// How many entries all five slices have.
-pub(crate) fn entries(terms: &[u16], keys: &[u8], values: &[u16], ps: &[u16], ls: &[u16]) -> usize
-    ensures { result ≡ length (entries_of (lent terms.now keys.now values.now ps.now ls.now)) }
-{
-    let a = lesser(terms.len(), keys.len());
-    let b = lesser(a, values.len());
-    let c = lesser(b, ps.len());
-    lesser(c, ls.len())
-}
+impl<'a> Columns<'a> {
+    // How many entries all five slices have.
+    pub(crate) fn entries(self) -> usize
+        ensures { result ≡ length (lent_log self.entry) }
+    {
+        self.terms
+            .len()
+            .min(self.keys.len())
+            .min(self.values.len())
+            .min(self.ps.len())
+            .min(self.ls.len())
+    }
 
-// The entry at position n, which is one of the log's.
-pub(crate) fn entry_at(
-    terms: &[u16],
-    keys: &[u8],
-    values: &[u16],
-    ps: &[u16],
-    ls: &[u16],
-    n: usize,
-) -> Entry
-    requires { (1 ≤ n) × (n ≤ length (entries_of (lent terms.now keys.now values.now ps.now ls.now))) }
-    ensures { result ≡ entry_at (entries_of (lent terms.now keys.now values.now ps.now ls.now)) n }
-{
-    let i = n - 1;
-    Entry {
-        term: terms[i],
-        key: keys[i],
-        value: values[i],
-        time: Time { p: ps[i], l: ls[i] },
-    }
-}
-
-// Whether the five slices are of one length.
-fn together(terms: &[u16], keys: &[u8], values: &[u16], ps: &[u16], ls: &[u16]) -> bool
-    ensures { result ≡ same_lengths (lent terms.now keys.now values.now ps.now ls.now) }
-{
-    let n = terms.len();
-    if keys.len() != n {
-        return false;
-    }
-    if values.len() != n {
-        return false;
-    }
-    if ps.len() != n {
-        return false;
-    }
-    ls.len() == n
-}
-
-// Whether every entry may stand in its place, at a server of some term.
-fn in_order(terms: &[u16], keys: &[u8], values: &[u16], ps: &[u16], ls: &[u16]) -> bool
-    ensures { result ≡ in_order limit (entries_of (lent terms.now keys.now values.now ps.now ls.now)) }
-{
-    let len = entries(terms, keys, values, ps, ls);
-    let mut d = server_log::ZERO_ENTRY;
-    let mut i: usize = 0;
-    while i < len {
-        let e = entry_at(terms, keys, values, ps, ls, i + 1);
-        if !server_log::place_ok(clock::LIMIT, i, d, e) {
-            return false;
+    // The entry at position n, which is one of the log's.
+    pub(crate) fn entry_at(self, n: usize) -> Entry
+        requires { (1 ≤ n) × (n ≤ length (lent_log self)) }
+        ensures { result ≡ entry_at (lent_log self.entry) n }
+    {
+        let i = n - 1;
+        Entry {
+            term: self.terms[i],
+            key: self.keys[i],
+            value: self.values[i],
+            time: Time {
+                p: self.ps[i],
+                l: self.ls[i],
+            },
         }
-        d = e;
-        i += 1;
     }
-    true
-}
 
-// Whether a well-formed record could hold the log.
-pub(crate) fn could_hold(terms: &[u16], keys: &[u8], values: &[u16], ps: &[u16], ls: &[u16]) -> bool
-    ensures { result ≡ could_hold (lent terms.now keys.now values.now ps.now ls.now) }
-{
-    if !together(terms, keys, values, ps, ls) {
-        return false;
+    // Whether the five slices are of one length.
+    fn together(self) -> bool
+        ensures { result ≡ same_lengths (lent_by self.entry) }
+    {
+        let n = self.terms.len();
+        self.keys.len() == n && self.values.len() == n && self.ps.len() == n && self.ls.len() == n
     }
-    if crate::COMMITTED_LIMIT < terms.len() {
-        return false;
-    }
-    in_order(terms, keys, values, ps, ls)
-}
 
-// Whether the time is (0,0) or some entry's, looked for from the newest end.
-pub(crate) fn known_time(
-    terms: &[u16],
-    keys: &[u8],
-    values: &[u16],
-    ps: &[u16],
-    ls: &[u16],
-    t: Time,
-) -> bool
-    ensures { result ≡ known_time (entries_of (lent terms.now keys.now values.now ps.now ls.now)) t }
-{
-    if clock::same_time(t, clock::ZERO_TIME) {
-        return true;
+    // Whether every entry may stand in its place, at a server of some term.
+    fn in_order(self) -> bool
+        ensures { result ≡ in_order limit (lent_log self.entry) }
+    {
+        let mut d = server_log::ZERO_ENTRY;
+        for i in 0..self.entries() {
+            let e = self.entry_at(i + 1);
+            if !server_log::place_ok(clock::LIMIT, i, d, e) {
+                return false;
+            }
+            d = e;
+        }
+        true
     }
-    let mut n = entries(terms, keys, values, ps, ls);
-    while 1 <= n {
-        let e = entry_at(terms, keys, values, ps, ls, n);
-        let s = e.time;
-        if clock::same_time(s, t) {
+
+    // Whether a well-formed record could hold the log.
+    pub(crate) fn could_hold(self) -> bool
+        ensures { result ≡ could_hold (lent_by self.entry) }
+    {
+        self.together() && self.terms.len() <= crate::COMMITTED_LIMIT && self.in_order()
+    }
+
+    // Whether the time is (0,0) or some entry's, looked for from the newest end.
+    pub(crate) fn known_time(self, t: Time) -> bool
+        ensures { result ≡ known_time (lent_log self.entry) t }
+    {
+        if clock::same_time(t, clock::ZERO_TIME) {
             return true;
         }
-        n -= 1;
+        for i in (0..self.entries()).rev() {
+            let e = self.entry_at(i + 1);
+            if clock::same_time(e.time, t) {
+                return true;
+            }
+        }
+        false
     }
-    false
+
+    // The value of the last entry for the key that is not after the time, looked for from the newest end; 0 if there is none.
+    pub(crate) fn value_at(self, key: u8, t: Time) -> u16
+        ensures { result ≡ value_at (lent_log self.entry) key t }
+    {
+        for i in (0..self.entries()).rev() {
+            let e = self.entry_at(i + 1);
+            if can_read(key, t, e) {
+                return e.value;
+            }
+        }
+        0
+    }
 }
 
 // Whether the entry is for the key, and not after the time.
 fn can_read(key: u8, t: Time, e: Entry) -> bool
     ensures { result ≡ readable key t e }
 {
-    if e.key != key {
-        return false;
-    }
-    let s = e.time;
-    !clock::is_before(t, s)
-}
-
-// The value of the last entry for the key that is not after the time, looked for from the newest end; 0 if there is none.
-pub(crate) fn value_at(
-    terms: &[u16],
-    keys: &[u8],
-    values: &[u16],
-    ps: &[u16],
-    ls: &[u16],
-    key: u8,
-    t: Time,
-) -> u16
-    ensures { result ≡ value_at (entries_of (lent terms.now keys.now values.now ps.now ls.now)) key t }
-{
-    let mut n = entries(terms, keys, values, ps, ls);
-    while 1 <= n {
-        let e = entry_at(terms, keys, values, ps, ls, n);
-        if can_read(key, t, e) {
-            return e.value;
-        }
-        n -= 1;
-    }
-    0
+    e.key == key && !clock::is_before(t, e.time)
 }

@@ -1,16 +1,16 @@
 // What the phones saw, checked against a committed log: the records lent as a slice of structs, the log as five slices of
 // numbers, one a field.
-#![tactic(auto)]
+#![tactic(auto, unfolding(crate::specs::Checking::checked_of, crate::specs::Committed::same_lengths, crate::specs::Committed::could_hold, crate::specs::Rules::record_in_range, crate::specs::Rules::same_write, crate::specs::Rules::write_obeys, crate::specs::Rules::readable, crate::specs::Rules::not_before, crate::specs::Rules::read_obeys, crate::specs::Rules::obeys, crate::specs::Reasons::why_write, crate::specs::Reasons::why_read, crate::specs::Reasons::why_of))]
 
-ghost use Rattle.std.specs.Prelude.{◌≡◌};
-ghost use Rattle.histories.specs.Committed.{lent, entries_of};
-ghost use Rattle.histories.specs.Checking.{check_of};
-ghost use Rattle.histories.specs.Walking.{start_of, fits_on, carried_on, own_answer, next_answer, looked_at};
+ghost use Rattle.std.specs.Prelude.{◌≡◌, length};
+ghost use Rattle.histories.specs.Lending.{lent_by, lent_log};
+ghost use Rattle.histories.specs.Checking.{obeys_at, first_breaker, list_ok, check_of};
 
 use clock::Time;
+use committed::Columns;
 use steps::Refusal;
 
-mod committed;
+pub mod committed;
 pub mod kept;
 pub mod obeys;
 pub mod why;
@@ -20,6 +20,7 @@ pub mod why;
 #[derive(Clone, Copy)]
 pub struct PhoneRecord {
     pub session: u16,
+    // Kept: a byte and no enum, since a line may hold any kind, and a list that has one of no record's kind is refused (`record_in_range`).
     pub kind: u8,
     pub key: u8,
     pub value: u16,
@@ -27,6 +28,8 @@ pub struct PhoneRecord {
     pub time: Time,
 }
 
+// Kept: three outcomes and no Result, since what breaks a rule is an answer beside the others, which `check_of` and the theorems of
+// `promises` name.
 #[derive(Clone, Copy)]
 pub enum Checked {
     Accepted,
@@ -54,159 +57,35 @@ pub const NO_RECORD: PhoneRecord = PhoneRecord {
     time: clock::ZERO_TIME,
 };
 
-// What is carried from record to record.
-#[derive(Clone, Copy)]
-struct Seen {
-    earlier: [PhoneRecord; MOST_RECORDS],
-    count: usize,
-    answer: Checked,
+// Whether there are no more records than a list can have, and each is in range.
+fn list_fits(records: &[PhoneRecord]) -> bool
+    ensures { result ≡ list_ok records.now (length records.now) }
+{
+    let few = records.len() <= MOST_RECORDS;
+    few && records.iter().all(|r| obeys::in_range(*r))
 }
 
-// Before the first record only the log is judged.
-fn start<'a>(
-    terms: &'a [u16],
-    keys: &'a [u8],
-    values: &'a [u16],
-    ps: &'a [u16],
-    ls: &'a [u16],
-) -> Seen
-    ensures { result ≡ start_of (lent terms.now keys.now values.now ps.now ls.now) }
+// The first record that breaks a rule, each judged by those before it.
+fn first_breaker(records: &[PhoneRecord], log: Columns) -> Checked
+    ensures { result ≡ first_breaker (length records.now) (obeys_at (lent_log log.entry) records.now) }
 {
-    if committed::could_hold(terms, keys, values, ps, ls) {
-        return Seen {
-            earlier: [NO_RECORD; MOST_RECORDS],
-            count: 0,
-            answer: Checked::Accepted,
-        };
+    for (i, r) in records.iter().enumerate() {
+        if !obeys::obeys(&records[..i], *r, log) {
+            return Checked::Breaks(i);
+        }
     }
-    Seen {
-        earlier: [NO_RECORD; MOST_RECORDS],
-        count: 0,
-        answer: Checked::Refused(Refusal::IllFormed),
-    }
+    Checked::Accepted
 }
 
-// Whether one record more still makes a list that is in range, where there are so many before it.
-fn fits_on(count: usize, r: PhoneRecord) -> bool
-    ensures { result ≡ fits_on count r }
+// Whether every record obeys the rules, the first that breaks one, or a refusal: the log is judged first, and then the list.
+pub fn check(records: &[PhoneRecord], log: Columns) -> Checked
+    ensures { result ≡ check_of records.now (lent_by log.entry) }
 {
-    if MOST_RECORDS <= count {
-        return false;
+    if !log.could_hold() {
+        return Checked::Refused(Refusal::IllFormed);
     }
-    obeys::in_range(r)
-}
-
-// An answer after one record more that itself breaks no rule: a refusal stays, and a list that isn't in range is refused.
-fn carried(answer: Checked, fits: bool) -> Checked
-    ensures { result ≡ carried_on answer fits }
-{
-    match answer {
-        Checked::Refused(x) => Checked::Refused(x),
-        Checked::Breaks(n) => if fits {
-            Checked::Breaks(n)
-        } else {
-            Checked::Refused(Refusal::OutOfRange)
-        },
-        Checked::Accepted => if fits {
-            Checked::Accepted
-        } else {
-            Checked::Refused(Refusal::OutOfRange)
-        },
+    if !list_fits(records) {
+        return Checked::Refused(Refusal::OutOfRange);
     }
-}
-
-// The answer that one record gives by itself, after those that were seen.
-fn own_answer<'a>(
-    s: Seen,
-    r: PhoneRecord,
-    terms: &'a [u16],
-    keys: &'a [u8],
-    values: &'a [u16],
-    ps: &'a [u16],
-    ls: &'a [u16],
-) -> Checked
-    ensures { result ≡ own_answer (entries_of (lent terms.now keys.now values.now ps.now ls.now)) s r }
-{
-    if obeys::obeys(s, r, terms, keys, values, ps, ls) {
-        return Checked::Accepted;
-    }
-    Checked::Breaks(s.count)
-}
-
-// The answer after one record more.
-fn next_answer<'a>(
-    s: Seen,
-    r: PhoneRecord,
-    terms: &'a [u16],
-    keys: &'a [u8],
-    values: &'a [u16],
-    ps: &'a [u16],
-    ls: &'a [u16],
-) -> Checked
-    ensures { result ≡ next_answer (entries_of (lent terms.now keys.now values.now ps.now ls.now)) s r }
-{
-    let answer = s.answer;
-    let fits = fits_on(s.count, r);
-    let so_far = carried(answer, fits);
-    match so_far {
-        Checked::Accepted => own_answer(s, r, terms, keys, values, ps, ls),
-        Checked::Breaks(n) => Checked::Breaks(n),
-        Checked::Refused(x) => Checked::Refused(x),
-    }
-}
-
-// What is carried after one record more.
-fn look_at<'a>(
-    s: Seen,
-    r: PhoneRecord,
-    terms: &'a [u16],
-    keys: &'a [u8],
-    values: &'a [u16],
-    ps: &'a [u16],
-    ls: &'a [u16],
-) -> Seen
-    ensures { result ≡ looked_at (entries_of (lent terms.now keys.now values.now ps.now ls.now)) s r }
-{
-    let answer = next_answer(s, r, terms, keys, values, ps, ls);
-    let at = s.count;
-    if MOST_RECORDS <= at {
-        return Seen {
-            answer: answer,
-            ..s
-        };
-    }
-    let mut t = s;
-    t.earlier[at] = r;
-    t.count = at + 1;
-    Seen {
-        answer: answer,
-        ..t
-    }
-}
-
-// The answer that was reached.
-fn answer_of(s: Seen) -> Checked
-    ensures { result ≡ s.answer }
-{
-    s.answer
-}
-
-// Whether every record obeys the rules, the first that breaks one, or a refusal.
-pub fn check<'a>(
-    records: &'a [PhoneRecord],
-    terms: &'a [u16],
-    keys: &'a [u8],
-    values: &'a [u16],
-    ps: &'a [u16],
-    ls: &'a [u16],
-) -> Checked
-    ensures { result ≡ check_of records.now (lent terms.now keys.now values.now ps.now ls.now) }
-{
-    let mut s = start(terms, keys, values, ps, ls);
-    let mut i: usize = 0;
-    while i < records.len() {
-        s = look_at(s, records[i], terms, keys, values, ps, ls);
-        i += 1;
-    }
-    answer_of(s)
+    first_breaker(records, log)
 }

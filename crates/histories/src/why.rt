@@ -1,9 +1,10 @@
 // Which of 02's rules a record breaks, once it is known to break one.
 ghost use Rattle.std.specs.Prelude.{◌≡◌};
-ghost use Rattle.histories.specs.Committed.{lent, entries_of};
+ghost use Rattle.histories.specs.Lending.{lent_log};
 ghost use Rattle.histories.specs.Reasons.{why_write, why_read, why_of};
 
-use crate::{PhoneRecord, committed};
+use crate::PhoneRecord;
+use crate::committed::Columns;
 use server_log::Entry;
 
 #[derive(Clone, Copy)]
@@ -20,42 +21,23 @@ pub enum Reason {
     TooEarly,
 }
 
-fn why_write(
-    r: PhoneRecord,
-    terms: &[u16],
-    keys: &[u8],
-    values: &[u16],
-    ps: &[u16],
-    ls: &[u16],
-) -> Reason
-    ensures { result ≡ why_write (entries_of (lent terms.now keys.now values.now ps.now ls.now)) r }
+fn why_write(r: PhoneRecord, log: Columns) -> Reason
+    ensures { result ≡ why_write (lent_log log.entry) r }
 {
-    let n = r.position as usize;
-    if n < 1 {
+    let n = usize::from(r.position);
+    if n < 1 || log.entries() < n {
         return Reason::NoSuchPosition;
     }
-    if committed::entries(terms, keys, values, ps, ls) < n {
-        return Reason::NoSuchPosition;
-    }
-    let e = committed::entry_at(terms, keys, values, ps, ls, n);
-    Reason::OtherEntry(e)
+    Reason::OtherEntry(log.entry_at(n))
 }
 
-fn why_read(
-    r: PhoneRecord,
-    terms: &[u16],
-    keys: &[u8],
-    values: &[u16],
-    ps: &[u16],
-    ls: &[u16],
-) -> Reason
-    ensures { result ≡ why_read (entries_of (lent terms.now keys.now values.now ps.now ls.now)) r }
+fn why_read(r: PhoneRecord, log: Columns) -> Reason
+    ensures { result ≡ why_read (lent_log log.entry) r }
 {
-    let t = r.time;
-    if !committed::known_time(terms, keys, values, ps, ls, t) {
+    if !log.known_time(r.time) {
         return Reason::NoSuchTime;
     }
-    let value = committed::value_at(terms, keys, values, ps, ls, r.key, t);
+    let value = log.value_at(r.key, r.time);
     if value != r.value {
         return Reason::OtherValue(value);
     }
@@ -63,18 +45,11 @@ fn why_read(
 }
 
 // Why a record breaks a rule: the first of its kind's rules that it breaks, and the order if none of the others.
-pub fn why(
-    r: PhoneRecord,
-    terms: &[u16],
-    keys: &[u8],
-    values: &[u16],
-    ps: &[u16],
-    ls: &[u16],
-) -> Reason
-    ensures { result ≡ why_of (entries_of (lent terms.now keys.now values.now ps.now ls.now)) r }
+pub fn why(r: PhoneRecord, log: Columns) -> Reason
+    ensures { result ≡ why_of (lent_log log.entry) r }
 {
     if r.kind == crate::WRITE_KIND {
-        return why_write(r, terms, keys, values, ps, ls);
+        return why_write(r, log);
     }
-    why_read(r, terms, keys, values, ps, ls)
+    why_read(r, log)
 }

@@ -8,9 +8,8 @@ use borrow.Author.Tests.{eqb-true, eq-eqb, ne_eqb}
 use lib.Dec.{eqb}
 use lib.ListN.{length, get_or, drop}
 use lib.Seq.{drop-cons, drop-length}
-use Rattle.lines.specs.declared.Reader.{Reader}
 use Rattle.lines.specs.Texts.{line_feed, lines}
-use Rattle.lines.specs.Readers.{fresh_reader, line_held, push_of, reader_after, reader_over}
+use Rattle.lines.specs.Readers.{Reader, fresh_reader, line_held, push_of, reader_after, reader_over}
 use Rattle.lines.specs.Folds.{over_lines, byte_after, over_bytes, at_end}
 use Rattle.lines.proofs.Held.{held_empty, held_some}
 use Rattle.lines.proofs.Lines.{Plain, none, more, plain_snoc, line_first, line_last}

@@ -4,5 +4,6 @@ pub mod Placed
 pub mod Held
 pub mod Readers
 pub mod Folded
+pub mod Walked
 pub mod Turns
 pub mod Results

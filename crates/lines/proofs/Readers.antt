@@ -7,10 +7,9 @@ use Prim.Native.Nat.{ℕ, ◌≤◌}
 use borrow.Author.Tests.{leb-true, leb-false, eq-eqb, ne_eqb}
 use lib.Dec.{leb, eqb}
 use lib.ListN.{length}
-use Rattle.lines.specs.declared.Reader.{Reader}
 use Rattle.lines.specs.Texts.{line_feed, rest_after}
 use Rattle.lines.specs.Held.{too_long}
-use Rattle.lines.specs.Readers.{width, reader_of, fresh_reader, line_held, push_of, reader_after, reader_over, reader_for}
+use Rattle.lines.specs.Readers.{Reader, width, reader_of, fresh_reader, line_held, push_of, reader_after, reader_over, reader_for}
 use Rattle.lines.proofs.Held as Held
 
 -- a reader stands for the bytes p that it was given since the last line feed

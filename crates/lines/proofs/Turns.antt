@@ -1,141 +1,97 @@
--- What a read answered, a law for each way that it can be: nothing, that it failed, or some bytes. Assumes nothing.
-use mathlib.Core.Path.{◌≡◌, refl, sym, ap, ◌∙◌, subst}
+-- What is done with an input turn by turn: a law for each way that a read can answer, and what all turns come to. Assumes nothing.
+use mathlib.Core.Path.{◌≡◌, refl, sym, ap, ◌∙◌}
 use mathlib.Core.Bool.{Bool, true, false, cond}
 use mathlib.Core.List.{List, [], ◌∷◌, ◌++◌}
-use Prim.Native.Nat.{ℕ, ◌+◌, ◌-◌, ◌≤◌, ◌<◌, min}
+use Prim.Native.Nat.{ℕ, ◌+◌, min}
 use native.Mathlib.Omega.{arith}
+use lib.Dec.{eqb}
 use lib.ListN.{length, take, length-append}
-use lib.IntN.{ℤ, pos, negsuc}
-use lib.Signed.{lt_z}
-use mir.Syntax.{w64}
-use mir.Val.{SFits, to_z, of_z}
-use mir.ValLaws.{to_z-of_z}
-use types.Run.{OneOf, miss}
-use denote.Enum.Declared.{tag_of}
-use borrow.Author.Tests.{ne_eqb, ltb-true, leb-true, leb-false}
-use lib.Dec.{leb}
-use lib.Seq.{take_all, take-length}
-use Rattle.lines.specs.declared.End.{End}
-use Rattle.lines.specs.declared.End.TheVariants.{More, Input, CannotRead, CannotWrite}
-use Rattle.lines.specs.Turns.{given, end_of, is_input, most_turns, over_pieces, TurnsBy, DrainsBy}
-use Rattle.lines.specs.contracts.End.{the_type}
+use borrow.Author.Tests.{ne_eqb}
+use Rattle.std.specs.Prelude.{Option, Some, None, Err}
+use Rattle.std.proofs.lemmas.List.{take_min}
+use Rattle.lines.specs.declared.Broke.TheVariants.{More, CannotRead, CannotWrite}
+use Rattle.lines.specs.Texts.{together}
+use Rattle.lines.specs.Turns.{End, all_read, given, closed_by, end_of, last_end, most_turns, over_pieces, TurnsBy, DrainsBy}
 
--- the places of the ends at which it is over
-abbrev ends : List ℕ
-ends = 1 ∷ 2 ∷ 3 ∷ []
+-- no turn ends an input for want of turns
+never_more : (got : Option ℕ) (wrote : Bool) → end_of got wrote ≡ Some (Err More) → ⊥
+unfolding end_of
+never_more None wrote e = cc
+never_more (Some n) wrote e = go (eqb n 0) wrote e
+  where
+    go : (z w : Bool) → cond z (Some all_read) (cond w None (Some (Err CannotWrite))) ≡ Some (Err More) → ⊥
+    go true w e = cc
+    go false true e = cc
+    go false false e = cc
 
-pub over : (e : End) → OneOf ends (tag_of the_type e) → e ≡ More → ⊥
-over e h m = miss ends 0 tt (subst (λ (x : End). OneOf ends (tag_of the_type x)) m h)
-
--- the places of the ends other than that of the input
-abbrev others : List ℕ
-others = 0 ∷ 2 ∷ 3 ∷ []
-
-pub not_at_end : (e : End) → OneOf others (tag_of the_type e) → is_input e ≡ false
-not_at_end More h = refl
-not_at_end Input h = absurd (miss others 1 tt h)
-not_at_end CannotRead h = refl
-not_at_end CannotWrite h = refl
-
--- what a read gave, and how its turn ends
-pub record Answers (got : ℤ) (buffer : List ℕ) (wrote : Bool) (x : List ℕ) (e : End) : Type 0 where
-  pub piece : x ≡ given got buffer
-  pub end : e ≡ end_of got wrote
-
-module _ (buffer : List ℕ) (got : ℤ) (fits : SFits w64 got) where
-  -- what the tests of a signed number say of it
-  signed_is : (n : ℕ) → of_z w64 got ≡ n → got ≡ to_z w64 n
-  signed_is n e = sym (to_z-of_z w64 got fits) ∙ ap (to_z w64) e
-
-  signed_below : (b : Bool) → lt_z (to_z w64 (of_z w64 got)) (pos 0) ≡ b → lt_z got (pos 0) ≡ b
-  signed_below b e = ap (λ (y : ℤ). lt_z y (pos 0)) (sym (to_z-of_z w64 got fits)) ∙ e
-
-  -- it answered 0
-  pub read_end : of_z w64 got ≡ 0 → Answers got buffer true [] Input
-  unfolding end_of
-  read_end e = rw (signed_is 0 e) (record { piece = refl; end = refl })
-
-  -- it answered that it failed
-  pub read_failed : lt_z (to_z w64 (of_z w64 got)) (pos 0) ≡ true → Answers got buffer true [] CannotRead
-  unfolding end_of
-  read_failed e = go got (signed_below true e)
-    where
-      go : (z : ℤ) → lt_z z (pos 0) ≡ true → Answers z buffer true [] CannotRead
-      go (pos n) h = let l : n < 0 = ltb-true n 0 h in let z : ⊥ = omega arith in absurd z
-      go (negsuc n) h = record { piece = refl; end = refl }
-
-  -- it answered some bytes, as many as there are
-  pub read_some : (wrote : Bool) (n : ℕ) → (of_z w64 got ≡ 0 → ⊥) → lt_z (to_z w64 (of_z w64 got)) (pos 0) ≡ false
-      → ((k : ℕ) → to_z w64 (of_z w64 got) ≡ pos k → n ≡ min k (length buffer)) → Answers got buffer wrote (take n buffer) (cond wrote More CannotWrite)
-  unfolding end_of
-  read_some wrote n some b e = go got (signed_below false b) (λ z. some (ap (of_z w64) z)) (λ k z. e k (to_z-of_z w64 got fits ∙ z))
-    where
-      first : (k : ℕ) → n ≡ min k (length buffer) → take n buffer ≡ take k buffer
-      first k m = by_test (leb k (length buffer)) refl
-        where
-          by_test : (t : Bool) → leb k (length buffer) ≡ t → take n buffer ≡ take k buffer
-          by_test true h = let l = leb-true k (length buffer) h in let q : n ≡ k = omega arith in ap (λ (j : ℕ). take j buffer) q
-          by_test false h =
-              let l = leb-false k (length buffer) h in
-              let q : n ≡ length buffer = omega arith in
-              ap (λ (j : ℕ). take j buffer) q ∙ take-length buffer ∙ sym (take_all k buffer (omega arith))
-
-      go : (z : ℤ) → lt_z z (pos 0) ≡ false → (z ≡ pos 0 → ⊥) → ((k : ℕ) → z ≡ pos k → n ≡ min k (length buffer)) → Answers z buffer wrote (take n buffer) (cond wrote More CannotWrite)
-      go (pos k) h some e = record { piece = first k (e k refl); end = rw (ne_eqb k 0 (λ z. some (ap pos z))) }
-      go (negsuc k) h some e = let z : ◌≡◌ {A = ℕ} 0 1 = cc in let w : ⊥ = omega arith in absurd w
-
--- ---- whatever is done with a piece
+-- what writes nothing ends as if all had been written
+pub ends_unwritten : (got : Option ℕ) (wrote : Bool) (e : End) → e ≡ last_end got wrote → (e ≡ Err CannotWrite → ⊥) → e ≡ last_end got true
+unfolding end_of
+ends_unwritten got true e p h = p
+ends_unwritten None false e p h = p
+ends_unwritten (Some n) false e p h = go (eqb n 0) refl
+  where
+    go : (z : Bool) → eqb n 0 ≡ z → e ≡ last_end (Some n) true
+    go true k = p ∙ rw k
+    go false k = absurd (h (p ∙ rw k))
 
 module _ {A : Type 0} (f : A → List ℕ → A) where
+  -- where no bytes change nothing, and two pieces do what one does that has both, all pieces do what the text does that they are
+  pub as_one : ((a : A) → f a [] ≡ a) → ((a : A) (x y : List ℕ) → f a (x ++ y) ≡ f (f a x) y) → (a : A) (xs : List (List ℕ)) → over_pieces f a xs ≡ f a (together xs)
+  as_one nothing append a [] = sym (nothing a)
+  as_one nothing append a (x ∷ xs) = as_one nothing append (f a x) xs ∙ sym (append a x (together xs))
+
   -- one piece more
   pub pieces_more : (a : A) (xs : List (List ℕ)) (x : List ℕ) → over_pieces f a (xs ++ (x ∷ [])) ≡ f (over_pieces f a xs) x
   pieces_more a [] x = refl
   pieces_more a (y ∷ ys) x = pieces_more (f a y) ys x
 
-  -- a turn, with what a read answered
-  module _ (a : A) (nothing : f a [] ≡ a) (buffer : List ℕ) (got : ℤ) (fits : SFits w64 got) where
-    pub turned_end : of_z w64 got ≡ 0 → TurnsBy f a buffer got a Input
-    turned_end e = let r = read_end buffer got fits e in record { state = sym nothing ∙ ap (f a) r.piece; wrote = true; end = r.end }
+  -- a turn: the read failed, or answered 0, or some bytes, which are no more than the buffer has
+  module _ (a : A) (buffer : List ℕ) (got : Option ℕ) where
+    pub turned_failed : f a [] ≡ a → got ≡ None → TurnsBy f a buffer got a (Some (Err CannotRead))
+    unfolding end_of
+    turned_failed same e = rw e (record { state = sym same; wrote = true; end = refl })
 
-    pub turned_failed : lt_z (to_z w64 (of_z w64 got)) (pos 0) ≡ true → TurnsBy f a buffer got a CannotRead
-    turned_failed e = let r = read_failed buffer got fits e in record { state = sym nothing ∙ ap (f a) r.piece; wrote = true; end = r.end }
+    pub turned_end : (n : ℕ) → f a [] ≡ a → got ≡ Some n → n ≡ 0 → TurnsBy f a buffer got a (Some all_read)
+    unfolding end_of
+    turned_end n same e z = rw (e, z) (record { state = sym same; wrote = true; end = refl })
 
-    pub turned_piece : (n : ℕ) (b : A) (e : End) (wrote : Bool) → (of_z w64 got ≡ 0 → ⊥) → lt_z (to_z w64 (of_z w64 got)) (pos 0) ≡ false
-        → ((k : ℕ) → to_z w64 (of_z w64 got) ≡ pos k → n ≡ min k (length buffer)) → b ≡ f a (take n buffer) → e ≡ cond wrote More CannotWrite → TurnsBy f a buffer got b e
-    turned_piece n b e wrote some below m p q =
-        let r = read_some buffer got fits wrote n some below m in
-        record { state = p ∙ ap (f a) r.piece; wrote = wrote; end = q ∙ r.end }
+    pub turned_piece : (n m : ℕ) (b : A) (wrote : Bool) → got ≡ Some n → (n ≡ 0 → ⊥) → m ≡ min n (length buffer) → b ≡ f a (take m buffer)
+        → TurnsBy f a buffer got b (closed_by wrote)
+    unfolding end_of
+    turned_piece n m b wrote e some least p =
+        rw e (record { state = p ∙ ap (f a) (rw least (take_min n buffer)); wrote = wrote; end = rw (ne_eqb n 0 some) })
 
-  -- some pieces are done, so many that the rest of the turns is left
+  -- some pieces are done, as many as the turns that are over
   pub record GoingBy (a d : A) (turns : ℕ) : Type 0 where
     pub pieces : List (List ℕ)
     pub state : d ≡ over_pieces f a pieces
-    pub left : length pieces + turns ≡ most_turns
+    pub count : length pieces ≡ turns
 
-  pub begins_by : (a : A) → GoingBy a a most_turns
-  begins_by a = record { pieces = []; state = refl; left = refl }
+  pub begins_by : (a : A) → GoingBy a a 0
+  begins_by a = record { pieces = []; state = refl; count = refl }
 
-  module _ (a d : A) (turns : ℕ) (buffer : List ℕ) (got : ℤ) (b : A) (e : End) (g : GoingBy a d turns) (u : TurnsBy f d buffer got b e) (h : 0 < turns) where
-    pub goes_on_by : GoingBy a b (turns - 1)
-    goes_on_by =
+  module _ (a d : A) (turns : ℕ) (buffer : List ℕ) (got : Option ℕ) (b : A) (g : GoingBy a d turns) where
+    pub goes_on_by : (e : Option End) → TurnsBy f d buffer got b e → GoingBy a b (turns + 1)
+    goes_on_by e u =
         record {
           pieces = g.pieces ++ (given got buffer ∷ []);
           state = u.state ∙ ap (λ (x : A). f x (given got buffer)) g.state ∙ sym (pieces_more a g.pieces (given got buffer));
-          left = omega (arith, length-append g.pieces (given got buffer ∷ []), g.left);
+          count = omega (arith, length-append g.pieces (given got buffer ∷ []), g.count);
         }
 
-    pub stops_by : (e ≡ More → ⊥) → DrainsBy f a b e
-    stops_by over =
+    pub stops_by : (o : Option End) (e : End) → TurnsBy f d buffer got b o → o ≡ Some e → DrainsBy f a b e
+    stops_by o e u s =
+        let n = goes_on_by o u in
         record {
-          pieces = goes_on_by.pieces;
-          state = goes_on_by.state;
+          pieces = n.pieces;
+          state = n.state;
           last = got;
           wrote = u.wrote;
-          end = u.end;
-          patient = λ m. absurd (over m);
+          end = sym (rw (← u.end, s));
+          patient = λ m. absurd (never_more got u.wrote (sym u.end ∙ s ∙ ap Some m));
         }
 
-  pub gives_up_by : (a d : A) (turns : ℕ) → turns ≤ 0 → GoingBy a d turns → DrainsBy f a d More
+  pub gives_up_by : (a d : A) (turns : ℕ) → GoingBy a d turns → turns ≡ most_turns → DrainsBy f a d (Err More)
   unfolding end_of
-  gives_up_by a d turns h g =
-      record { pieces = g.pieces; state = g.state; last = pos 1; wrote = true; end = refl; patient = λ e. omega (arith, g.left) }
+  gives_up_by a d turns g e = record { pieces = g.pieces; state = g.state; last = Some 1; wrote = true; end = refl; patient = λ _. g.count ∙ e }

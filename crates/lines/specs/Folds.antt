@@ -1,9 +1,8 @@
 -- What is done with each line of a text, whatever it is, and the same byte by byte with a reader. Nobody has to believe the second: by
 -- `folded` it comes to the first. Assumes nothing.
 use Rattle.std.specs.Prelude.{cond, List, [], ◌∷◌, ℕ, eqb}
-use Rattle.lines.specs.declared.Reader.{Reader}
 use Rattle.lines.specs.Texts.{line_feed}
-use Rattle.lines.specs.Readers.{line_held, is_empty, reader_after}
+use Rattle.lines.specs.Readers.{Reader, line_held, is_empty, reader_after}
 
 module _ {A : Type 0} where
   -- each line in turn

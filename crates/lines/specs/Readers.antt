@@ -1,7 +1,7 @@
 -- The reader of a text's lines, byte by byte: 26 characters are kept. Nobody has to believe this: what comes of it is said of the text's lines.
 -- Assumes nothing.
 use Rattle.std.specs.Prelude.{Bool, cond, List, [], ◌∷◌, ℕ, eqb}
-use Rattle.lines.specs.declared.Reader.{Reader}
+use Rattle.lines.specs.declared.ReaderOf.{ReaderOf}
 use Rattle.lines.specs.Texts.{line_feed}
 use Rattle.lines.specs.Held.{held_line, nothing_held, nothing_read, pushed, form_of}
 
@@ -9,7 +9,12 @@ use Rattle.lines.specs.Held.{held_line, nothing_held, nothing_read, pushed, form
 abbrev pub width : ℕ
 width = 26
 
-abbrev pub reader_of : List ℕ → ℕ → Bool → Reader
+-- the reader of a text's lines
+abbrev pub Reader : Type 0
+Reader = ReaderOf width
+
+-- a reader, whatever the number of characters that it keeps
+abbrev pub reader_of : {n : ℕ} → List ℕ → ℕ → Bool → ReaderOf n
 reader_of held fill over = record { held = held; fill = fill; over = over }
 
 abbrev pub fresh_reader : Reader
@@ -20,12 +25,12 @@ unfoldable pub line_held : Reader → List ℕ
 line_held r = held_line width r.held r.fill r.over
 
 -- nothing of a line was read
-abbrev pub is_empty : Reader → Bool
+abbrev pub is_empty : {n : ℕ} → ReaderOf n → Bool
 is_empty r = nothing_held r.fill r.over
 
 -- one character more
-unfoldable pub push_of : Reader → ℕ → Reader
-push_of r b = pushed width reader_of r.held r.fill r.over b
+unfoldable pub push_of : {n : ℕ} → ReaderOf n → ℕ → ReaderOf n
+push_of {n} r b = pushed n reader_of r.held r.fill r.over b
 
 -- after one byte, which is a line feed or a character of the line; and after some
 unfoldable pub reader_after : Reader → ℕ → Reader

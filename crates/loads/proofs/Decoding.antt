@@ -1,4 +1,5 @@
 -- The frames of a record decode to that record: server by server, and in it entries, notes and reports. Assumes nothing.
+use Rattle.std.proofs.Common.{Option, None, Some}
 use mathlib.Core.Path.{◌≡◌, refl, sym, ap, ◌∙◌}
 use mathlib.Core.Bool.{Bool, true, false, cond}
 use mathlib.Core.List.{List, [], ◌∷◌, ◌++◌, map}
@@ -39,14 +40,14 @@ use Rattle.cluster.proofs.Changed.{replaced_here}
 use Rattle.cluster.proofs.Good.{good}
 use Rattle.cluster.proofs.Sound.{ServerSound, Sound, sound_rows}
 use Rattle.saved.specs.declared.Sort.TheVariants as S
-use Rattle.saved.specs.Layout.{Widths, frame, numbers_in, server_numbers, first_frame, server_frame, entry_frame, note_frame, report_frame}
+use Rattle.saved.specs.Layout.{Widths, frame, numbers_in, source_number, server_numbers, first_frame, server_frame, entry_frame, note_frame, report_frame}
 use Rattle.saved.specs.Editions.{Edition, allows_followers}
 use Rattle.saved.specs.Saved.{note_frames, queued_reports, server_frames, all_frames, frames_of, saved_as}
 use Rattle.saved.proofs.Lawful.{Lawful}
 use Rattle.saved.proofs.First.{first_numbers, first_taken, first_long, first_size, first_followers}
 use Rattle.saved.proofs.Frames.{saved_frames}
 use Rattle.loads.specs.declared.Draft.{Draft}
-use Rattle.loads.specs.Decoded.{head_said, told_by, counting, beginning, telling, with_frame, roomy, decoded_by, fresh_draft, drafted_in, decoded_in}
+use Rattle.loads.specs.Decoded.{head_said, source_said, told_by, counting, beginning, telling, with_frame, roomy, decoded_by, fresh_draft, drafted_in, decoded_in}
 use Rattle.loads.proofs.Counted.{counted, AllCount, counted_long, all_count}
 use Rattle.loads.proofs.Fields.{reporting, sort_read, numbers_read, head_read, told_entry, told_note, told_report}
 
@@ -57,6 +58,11 @@ decoded_append w d (x ∷ xs) ys = decoded_append w (with_frame w d (roomy x)) x
 -- server i was begun last
 abbrev building : Cluster → ℕ → Server → Draft
 building c i s = record { cluster = with_server c i s; begun = i + 1 }
+
+-- a source's number tells that source
+source_again : (source : Option ℕ) → source_said (source_number source) ≡ source
+source_again None = refl
+source_again (Some n) = refl
 
 -- what its frame alone tells of a server
 abbrev bare : Server → Server
@@ -134,8 +140,9 @@ module _ {w : Widths} (l : Lawful w) (c : Cluster) (i : ℕ) (slots : length c.s
   unfolding with_frame beginning
   begins s =
       rw (sort_read l S.Server _ (sym l.server_long), lt-ltb i most_servers room)
-      (ap (λ (ns : List ℕ). building c i (record { head = head_said (numbers_in w S.Server (roomy (server_frame w s))); log = empty_log; mail = with_source zero_mail (byte_at ns 3); rows = zero_rows }))
+      (ap (λ (ns : List ℕ). building c i (record { head = head_said (numbers_in w S.Server (roomy (server_frame w s))); log = empty_log; mail = with_source zero_mail (source_said (byte_at ns 3)); rows = zero_rows }))
       (numbers_read l S.Server (server_numbers s) (sym l.server_long))
+      ∙ ap (λ (o : Option ℕ). building c i (record { head = head_said (numbers_in w S.Server (roomy (server_frame w s))); log = empty_log; mail = with_source zero_mail o; rows = zero_rows })) (source_again s.mail.source)
       ∙ ap (λ (h : Head). building c i (record { head = h; log = empty_log; mail = (bare s).mail; rows = zero_rows })) (head_read l s))
 
   server : {n j : ℕ} (s : Server) → ServerSound n j s → decoded_by w (record { cluster = c; begun = i }) (server_frames w s) ≡ building c i (unrowed s)

@@ -1,9 +1,10 @@
 -- Whatever a text is, the record that it decodes to fits its types. Assumes nothing.
+use Rattle.std.specs.Option.{IfSome}
 use mathlib.Core.Path.{◌≡◌, ◌∙◌, refl, subst}
 use mathlib.Core.Bool.{Bool, true, false, cond, ◌&&◌}
 use mathlib.Core.List.{List, [], ◌∷◌, map}
 use mathlib.Core.Logic.{⊎_elim}
-use Prim.Native.Nat.{ℕ, ◌+◌, ◌-◌, ◌<◌, ◌≤◌, min}
+use Prim.Native.Nat.{ℕ, zero, suc, ◌+◌, ◌-◌, ◌^◌, ◌<◌, ◌≤◌, min}
 use native.Mathlib.Omega.{arith}
 use lib.Dec.{eqb, ltb, leb}
 use lib.ListN.{length, get_or, replicate, length-set, get_or-replicate, get_or-eq_default}
@@ -37,7 +38,7 @@ use Rattle.saved.specs.Written.{most_bytes}
 use Rattle.saved.proofs.Fields.{said_below}
 use Rattle.saved.proofs.Lawful.{BytesAt, ToldLawful, Lawful}
 use Rattle.loads.specs.declared.Draft.{Draft}
-use Rattle.loads.specs.Decoded.{head_said, server_said, entry_said, report_said, told_by, counting, beginning, telling, with_frame, roomy, decoded_by, fresh_draft, drafted_in, decoded_in}
+use Rattle.loads.specs.Decoded.{head_said, source_said, server_said, entry_said, report_said, told_by, counting, beginning, telling, with_frame, roomy, decoded_by, fresh_draft, drafted_in, decoded_in}
 
 -- ---- records
 
@@ -56,6 +57,10 @@ fits_put {c} f i s new =
       slots = length-set c.servers i s ∙ f.slots;
       each = all_set FitsServer c.servers past_server most_servers (omega (arith, f.slots)) f.each i s new;
     }
+
+fits_source_said : (n : ℕ) → n < 2 ^ 64 → IfSome (source_said n) (λ b. b < 2 ^ 64)
+fits_source_said zero h = tt
+fits_source_said (suc n) h = omega arith
 
 -- ---- the fields of a frame
 
@@ -120,7 +125,7 @@ module _ {w : Widths} (l : Lawful w) (bs : List ℕ) (b : BytesAt bs) where
       new = server_said (numbers_in w S.Server bs)
 
       go : (x : Bool) → Fits (cond x (record { cluster = with_server d.cluster d.begun new; begun = d.begun + 1 }) d).cluster
-      go true = fits_put f d.begun new (fits_mail (fits_head fits_zero fits_head_said) (fits_sourced fits_zero.mail (omega (arith, number_at S.Server 3))))
+      go true = fits_put f d.begun new (fits_mail (fits_head fits_zero fits_head_said) (fits_sourced fits_zero.mail (fits_source_said _ (omega (arith, number_at S.Server 3)))))
       go false = f
 
   fits_telling : (d : Draft) → Fits d.cluster → Fits (telling w d bs).cluster

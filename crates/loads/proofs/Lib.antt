@@ -5,6 +5,8 @@ pub mod Decoding
 pub mod Shaped
 pub mod Fit
 pub mod Lines
+pub mod Alike
+pub mod Same
 pub mod Texts
 pub mod Saves
 pub mod Loads

@@ -1,4 +1,5 @@
 -- What a saving into a buffer with room for the longest saved form says of a record and its text. Assumes nothing.
+use Rattle.std.proofs.Common.{Result, Ok, Err}
 use mathlib.Core.Path.{◌≡◌, refl, sym, ap, ◌∙◌}
 use mathlib.Core.Bool.{Bool, true, false, cond, ◌&&◌}
 use mathlib.Core.List.{List, ◌++◌}
@@ -10,8 +11,8 @@ use borrow.Author.Tests.{le-ltb}
 use Rattle.base.proofs.Bools.{and_left, and_right}
 use Rattle.cluster.specs.declared.Cluster.{Cluster}
 use Rattle.steps.specs.declared.Refusal.TheVariants.{IllFormed, OutOfRange}
-use Rattle.saved.specs.declared.Saved.{Saved}
-use Rattle.saved.specs.declared.Saved.TheVariants.{Text, NoRoom, Refused}
+use Rattle.saved.specs.declared.NotSaved.{NotSaved}
+use Rattle.saved.specs.declared.NotSaved.TheVariants.{Refused}
 use Rattle.saved.specs.Editions.{editions, is_known, edition_numbered, has_form}
 use Rattle.saved.specs.Saved.{saved_as}
 use Rattle.saved.specs.Written.{longest, saved_as_of, saved_as_out}
@@ -21,10 +22,9 @@ use Rattle.loads.specs.Loads.{same_text}
 abbrev pub has_text : ℕ → Cluster → Bool
 has_text n d = is_known editions n && has_form (edition_numbered editions n) d
 
-abbrev pub is_text : Saved → Bool
-is_text (Text n) = true
-is_text NoRoom = false
-is_text (Refused r) = false
+abbrev pub is_text : Result ℕ NotSaved → Bool
+is_text (Ok n) = true
+is_text (Err e) = false
 
 module _ (n : ℕ) (d : Cluster) where
   abbrev form : List ℕ
@@ -41,15 +41,15 @@ module _ (n : ℕ) (d : Cluster) where
   unfolding saved_as_of
   saves room h = rw (le-ltb room longest h) (go (is_known editions n) (has_form (edition_numbered editions n) d))
     where
-      go : (x y : Bool) → is_text (cond x (cond y (Text (length form)) (Refused IllFormed)) (Refused OutOfRange)) ≡ (x && y)
+      go : (x y : Bool) → is_text (cond x (cond y (Ok (length form)) (Err (Refused IllFormed))) (Err (Refused OutOfRange))) ≡ (x && y)
       go true true = refl
       go true false = refl
       go false y = refl
 
-  pub no_text : (room : ℕ) → longest ≤ room → (s : Saved) → is_text s ≡ false → s ≡ saved_as_of n d room → has_text n d ≡ false
+  pub no_text : (room : ℕ) → longest ≤ room → (s : Result ℕ NotSaved) → is_text s ≡ false → s ≡ saved_as_of n d room → has_text n d ≡ false
   no_text room h s t e = sym (saves room h) ∙ ap is_text (sym e) ∙ t
 
-  pub wrote_text : (out : List ℕ) → longest ≤ length out → (m : ℕ) (after : List ℕ) → Text m ≡ saved_as_of n d (length out) → after ≡ saved_as_out n d out → Wrote m after
+  pub wrote_text : (out : List ℕ) → longest ≤ length out → (m : ℕ) (after : List ℕ) → Ok m ≡ saved_as_of n d (length out) → after ≡ saved_as_out n d out → Wrote m after
   unfolding saved_as_of saved_as_out
   wrote_text out h m after e p =
       record {
@@ -68,7 +68,7 @@ module _ (n : ℕ) (d : Cluster) where
       formed = and_right (is_known editions n) _ has
 
       long : m ≡ length form
-      long = let q : Text m ≡ Text (length form) = e ∙ rw (known, formed, le-ltb (length out) longest h) in cc
+      long = let q : Ok m ≡ Ok (length form) = e ∙ rw (known, formed, le-ltb (length out) longest h) in cc
 
       whole : after ≡ form ++ drop (length form) out
       whole =

@@ -1,6 +1,6 @@
 -- What a text decodes to, frame by frame, with nothing checked. Nobody has to believe this: loading takes the record only where it saves
 -- to that very text in the text's own edition. Assumes nothing.
-use Rattle.std.specs.Prelude.{cond, ◌&&◌, List, [], ◌∷◌, map, ℕ, ◌+◌, ◌-◌, eqb, ltb, leb, replicate}
+use Rattle.std.specs.Prelude.{cond, ◌&&◌, List, [], ◌∷◌, map, ℕ, zero, suc, ◌+◌, ◌-◌, eqb, ltb, leb, replicate, Option, Some, None}
 use Rattle.hex_text.specs.Lines.{bytes_of, over}
 use Rattle.words.specs.Words.{byte_at}
 use Rattle.server_log.specs.declared.Entry.{Entry}
@@ -30,9 +30,14 @@ head_said ns =
       time = record { p = byte_at ns 8; l = byte_at ns 9 };
     }
 
+-- the source whose number it is
+abbrev pub source_said : ℕ → Option ℕ
+source_said zero = None
+source_said (suc n) = Some n
+
 -- a server frame tells of no entries, notes and reports yet
 abbrev pub server_said : List ℕ → Server
-server_said ns = record { head = head_said ns; log = empty_log; mail = with_source zero_mail (byte_at ns 3); rows = zero_rows }
+server_said ns = record { head = head_said ns; log = empty_log; mail = with_source zero_mail (source_said (byte_at ns 3)); rows = zero_rows }
 
 abbrev pub entry_said : List ℕ → Entry
 entry_said ns = record { term = byte_at ns 0; key = byte_at ns 1; value = byte_at ns 2; time = record { p = byte_at ns 3; l = byte_at ns 4 } }

@@ -9,14 +9,14 @@ ghost use Rattle.saved.specs.Layout.{numbers_in, said_at};
 ghost use Rattle.saved.specs.Editions.{widths1, editions, is_known, edition_numbered, has_form};
 ghost use Rattle.saved.specs.Saved.{saved_as};
 ghost use Rattle.saved.specs.Written.{most_bytes};
-ghost use Rattle.loads.specs.Decoded.{head_said, server_said, entry_said, report_said, told_by, counting, beginning, telling, with_frame, roomy, fresh_draft, drafted_in, decoded_in};
+ghost use Rattle.loads.specs.Decoded.{head_said, source_said, server_said, entry_said, report_said, told_by, counting, beginning, telling, with_frame, roomy, fresh_draft, drafted_in, decoded_in};
 ghost use Rattle.loads.specs.Loads.{same_text, load_of};
 
 use clock::Time;
 use cluster::{Cluster, Head, Server};
 use lines::LINE_FEED;
 use mail::Report;
-use saved::{ENTRY, FIRST, NOTE, REPORT, SERVER, Saved};
+use saved::Sort;
 use server_log::Entry;
 use steps::{Answer, Outcome, Refusal};
 
@@ -27,6 +27,7 @@ pub const BYTES: usize = saved::SERVER_BYTES;
 pub const PRIMARY: u8 = 1;
 
 // A record that is being decoded, and how many of its servers were begun.
+// Kept: the number beside the record, whose seven servers stand by value as document 01 has them.
 #[derive(Clone, Copy)]
 struct Draft {
     cluster: Cluster,
@@ -50,10 +51,17 @@ pub fn head_in(b: [u8; BYTES]) -> Head
     Head {
         term: word_at(b, 7),
         primary: b[6] == PRIMARY,
-        commit: word_at(b, 9) as usize,
+        commit: usize::from(word_at(b, 9)),
         wall: word_at(b, 11),
         time: Time { p, l },
     }
+}
+
+// The source that a server's frame tells.
+fn source_in(b: [u8; BYTES]) -> Option<usize>
+    ensures { result ≡ source_said (said_at widths1 S.Server b 3) }
+{
+    usize::from(b[5]).checked_sub(1)
 }
 
 // The server that a server frame begins.
@@ -63,7 +71,7 @@ fn server_in(b: [u8; BYTES]) -> Server
     Server {
         head: head_in(b),
         log: server_log::EMPTY_LOG,
-        mail: mail::with_source(mail::ZERO_MAIL, b[5] as usize),
+        mail: mail::with_source(mail::ZERO_MAIL, source_in(b)),
         rows: server_log::rows::ZERO_ROWS,
     }
 }
@@ -95,23 +103,21 @@ pub fn report_in(b: [u8; BYTES]) -> Report
 }
 
 // The server with what an entry's, a note's or a report's frame tells.
+#[tactic(auto, unfolding(crate::specs::Decoded::told_by))]
 fn told_by(s: Server, b: [u8; BYTES]) -> Server
     ensures { result ≡ told_by widths1 s b }
 {
-    let sort = b[0];
-    let g = s.log;
-    let m = s.mail;
-    match sort {
-        ENTRY => Server {
-            log: server_log::append(g, entry_in(b)),
+    match Sort::try_from(b[0]) {
+        Ok(Sort::Entry) => Server {
+            log: server_log::append(s.log, entry_in(b)),
             ..s
         },
-        NOTE => Server {
-            mail: mail::noted(m, report_in(b)),
+        Ok(Sort::Note) => Server {
+            mail: mail::noted(s.mail, report_in(b)),
             ..s
         },
-        REPORT => Server {
-            mail: mail::received(m, report_in(b)),
+        Ok(Sort::Report) => Server {
+            mail: mail::received(s.mail, report_in(b)),
             ..s
         },
         _ => s,
@@ -123,26 +129,25 @@ pub fn followers_in(edition: u8, b: [u8; BYTES]) -> u8
     ensures { result ≡ said_at (edition_numbered editions edition).widths S.First b 2 }
 {
     if saved::limits_of(edition).followers {
-        return b[3];
+        b[3]
+    } else {
+        0
     }
-    0
 }
 
 fn counting(d: Draft, n: usize, followers: u8) -> Draft
     ensures { result ≡ counting d n followers }
 {
-    let c = d.cluster;
-    Draft {
-        cluster: Cluster {
-            count: n,
-            followers: followers,
-            ..c
-        },
-        begun: d.begun,
-    }
+    let cluster = Cluster {
+        count: n,
+        followers,
+        ..d.cluster
+    };
+    Draft { cluster, ..d }
 }
 
 // The next server is begun, where there is a place for it.
+#[tactic(auto, unfolding(crate::specs::Decoded::beginning))]
 fn beginning(d: Draft, s: Server) -> Draft
     ensures { result ≡ beginning d s }
 {
@@ -150,41 +155,34 @@ fn beginning(d: Draft, s: Server) -> Draft
     if cluster::MOST_SERVERS <= n {
         return d;
     }
-    let c = d.cluster;
     Draft {
-        cluster: cluster::with_server(c, n, s),
+        cluster: cluster::with_server(d.cluster, n, s),
         begun: n + 1,
     }
 }
 
 // The server that was begun last is told more.
+#[tactic(auto, unfolding(crate::specs::Decoded::telling))]
 fn telling(d: Draft, b: [u8; BYTES]) -> Draft
     ensures { result ≡ telling widths1 d b }
 {
     let n = d.begun;
-    if n < 1 {
+    if n < 1 || cluster::MOST_SERVERS < n {
         return d;
     }
-    if cluster::MOST_SERVERS < n {
-        return d;
-    }
-    let mut c = d.cluster;
-    let s = c.servers[n - 1];
-    let t = told_by(s, b);
-    c.servers[n - 1] = t;
+    let s = told_by(d.cluster.servers[n - 1], b);
     Draft {
-        cluster: c,
-        begun: n,
+        cluster: cluster::with_server(d.cluster, n - 1, s),
+        ..d
     }
 }
 
 fn with_frame(edition: u8, d: Draft, b: [u8; BYTES]) -> Draft
     ensures { result ≡ with_frame (edition_numbered editions edition).widths d b }
 {
-    let sort = b[0];
-    match sort {
-        FIRST => counting(d, b[2] as usize, followers_in(edition, b)),
-        SERVER => beginning(d, server_in(b)),
+    match Sort::try_from(b[0]) {
+        Ok(Sort::First) => counting(d, usize::from(b[2]), followers_in(edition, b)),
+        Ok(Sort::Server) => beginning(d, server_in(b)),
         _ => telling(d, b),
     }
 }
@@ -212,44 +210,34 @@ fn drafted(edition: u8, text: &[u8]) -> Cluster
     ensures { result ≡ drafted_in (edition_numbered editions edition).widths text.now }
 {
     let mut d = fresh_draft();
+    // Kept: lines by their places, since the edits `keeps_the_line_feed` and `drops_a_rest_without_line_feed` plant a wrong place; the parts that
+    // `split` gives have none, and one more, an empty one after the last line feed.
     let mut start: usize = 0;
-    let mut i: usize = 0;
-    while i < text.len() {
+    for i in 0..text.len() {
         if text[i] == LINE_FEED {
             d = with_line(edition, d, &text[start..i]);
             start = i + 1;
         }
-        i += 1;
     }
-    if start < i {
-        d = with_line(edition, d, &text[start..i]);
+    if start < text.len() {
+        d = with_line(edition, d, &text[start..]);
     }
     d.cluster
 }
 
 // What a text decodes to in an edition, with nothing checked.
+#[tactic(auto, unfolding(crate::specs::Decoded::decoded_in))]
 pub fn decode(edition: u8, text: &[u8]) -> Cluster
     ensures { result ≡ decoded_in (edition_numbered editions edition).widths text.now }
 {
-    let c = drafted(edition, text);
-    cluster::rowed_all(c)
+    cluster::rowed_all(drafted(edition, text))
 }
 
 // Whether two texts are the same.
 pub fn same_text(a: &[u8], b: &[u8]) -> bool
     ensures { result ≡ same_text a.now b.now }
 {
-    if a.len() != b.len() {
-        return false;
-    }
-    let mut i: usize = 0;
-    while i < a.len() {
-        if a[i] != b[i] {
-            return false;
-        }
-        i += 1;
-    }
-    true
+    a == b
 }
 
 // Whether the edition has a form for a record, and the text is that form.
@@ -257,11 +245,9 @@ fn saves_to(edition: u8, d: Cluster, text: &[u8]) -> bool
     ensures { result ≡ (is_known editions edition && (has_form (edition_numbered editions edition) d && same_text (saved_as (edition_numbered editions edition) d) text.now)) }
 {
     let mut out = [0u8; saved::LONGEST];
-    let wrote = saved::save_as(edition, d, &mut out);
-    match wrote {
-        Saved::Text(n) => same_text(&out[..n], text),
-        Saved::NoRoom => false,
-        Saved::Refused(_) => false,
+    match saved::save_as(edition, d, &mut out) {
+        Ok(n) => same_text(&out[..n], text),
+        Err(_) => false,
     }
 }
 

@@ -1,8 +1,9 @@
 -- Mail that a well-formed record may hold, as facts: one for each clause of 02, and back. Assumes nothing.
-use mathlib.Core.Path.{◌≡◌, ap}
+use Rattle.std.proofs.Common.{Option, None, Some, IfSome}
+use mathlib.Core.Path.{◌≡◌, refl, ap}
 use mathlib.Core.Bool.{true, not, ◌&&◌}
 use mathlib.Core.Logic.{◌⊎◌, inl, inr, ◌≢◌, ⊎_elim}
-use Prim.Native.Nat.{ℕ, suc, ◌<◌, ◌≤◌}
+use Prim.Native.Nat.{ℕ, ◌<◌, ◌≤◌}
 use native.Mathlib.Omega.{arith}
 use lib.Dec.{eqb, ltb, leb}
 use lib.ListN.{length, get_or-eq_default}
@@ -134,33 +135,27 @@ module _ {count : ℕ} {q : Queue} where
 
 -- ---- the source
 
--- none, which is 0, is within and not server i itself
-pub record SourceGood (count i source : ℕ) : Type 0 where
-  pub within : source ≤ count
-  pub other : source ≢ suc i
+-- where there is one, it is counted, and not server i itself
+pub record SourceGood (count i : ℕ) (source : Option ℕ) : Type 0 where
+  pub within : IfSome source (λ s. s < count)
+  pub other : IfSome source (λ s. s ≢ i)
 
-pub no_source : {count i : ℕ} → SourceGood count i 0
-no_source = record { within = omega arith; other = λ e. absurd (omega arith) }
+pub no_source : {count i : ℕ} → SourceGood count i None
+no_source = record { within = tt; other = tt }
 
-pub source_of : {count i b : ℕ} → b < count → b ≢ i → SourceGood count i (suc b)
-source_of l ne = record { within = l; other = λ e. ne (omega arith) }
+pub source_of : {count i b : ℕ} → b < count → b ≢ i → SourceGood count i (Some b)
+source_of l ne = record { within = l; other = ne }
 
-module _ {count i source : ℕ} where
-  pub source_good : source_ok count i source ≡ true → SourceGood count i source
+module _ {count i : ℕ} where
+  pub source_good : (source : Option ℕ) → source_ok count i source ≡ true → SourceGood count i source
   unfolding source_ok
-  source_good h = ⊎_elim (λ e. rw (eqb-true source 0 e) no_source) some (or_cases (eqb source 0) _ h)
-    where
-      some : (leb source count && not (eqb source (suc i))) ≡ true → SourceGood count i source
-      some e =
-          record {
-            within = leb-true source count (and_left _ _ e);
-            other = eqb-false source (suc i) (not-true _ (and_right (leb source count) _ e));
-          }
+  source_good None h = no_source
+  source_good (Some s) h = source_of (ltb-true s count (and_left _ _ h)) (eqb-false s i (not-true _ (and_right (ltb s count) _ h)))
 
-  pub good_source : SourceGood count i source → source_ok count i source ≡ true
+  pub good_source : (source : Option ℕ) → SourceGood count i source → source_ok count i source ≡ true
   unfolding source_ok
-  good_source g =
-      or_right (eqb source 0) _ (and_both _ _ (le-leb source count g.within) (ap not (ne_eqb source (suc i) g.other)))
+  good_source None g = refl
+  good_source (Some s) g = and_both _ _ (lt-ltb s count g.within) (ap not (ne_eqb s i g.other))
 
 -- ---- the mail of server i
 
@@ -178,11 +173,11 @@ module _ {count i : ℕ} {m : Mail} where
         notes = λ j. ⊎_elim (λ l. note_good (every_at _ note_slots j (and_left _ _ h) l))
             (λ l. inl (get_or-eq_default m.notes zero_note {n = j} (omega (arith, f.slots)))) (lt_or_le j note_slots);
         queue = queue_good f.queue.slots (and_left _ _ h2);
-        source = source_good (and_right (queue_ok count m.queue) _ h2);
+        source = source_good m.source (and_right (queue_ok count m.queue) _ h2);
       }
 
   pub good_mail : MailGood count i m → mail_ok count i m ≡ true
   unfolding mail_ok notes_ok
   good_mail g =
       and_both _ _ (every_all _ note_slots (λ j l. good_note (g.notes j)))
-      (and_both _ _ (good_queue g.queue) (good_source g.source))
+      (and_both _ _ (good_queue g.queue) (good_source m.source g.source))

@@ -32,11 +32,7 @@ set_held {A} xs i j x d = go (eqb j i) refl
 -- ---- a report is noted
 
 module _ (m : Mail) (r : Report) where
-  -- one of no server changes nothing, nor does one that the note of its server doesn't give way to
-  pub noted_past : length m.notes ≤ r.who → noted m r ≡ m
-  unfolding noted
-  noted_past h = ap (with_notes m) (set_out m.notes r.who _ h)
-
+  -- one that the note of its server doesn't give way to changes nothing
   pub noted_not : gives_way (note_at m r.who) (note_of r) ≡ false → noted m r ≡ m
   unfolding noted
   noted_not e = rw e (ap (with_notes m) (set-get_or m.notes r.who zero_note))

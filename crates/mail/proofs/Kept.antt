@@ -1,4 +1,5 @@
 -- What is done to mail keeps it good, whatever the count and the server; and past the count mail is zero. Assumes nothing.
+use Rattle.std.proofs.Common.{Option, None, Some}
 use mathlib.Core.Path.{◌≡◌, refl, sym, ◌∙◌}
 use mathlib.Core.Bool.{true}
 use mathlib.Core.List.{List}
@@ -83,7 +84,7 @@ module _ {count i : ℕ} {m : Mail} (g : MailGood count i m) where
   pub emptied_good : MailGood count i (emptied m)
   emptied_good = record { notes = λ j. inl (zero_note_at j); queue = empty_good; source = g.source }
 
-  pub sourced_good : {s : ℕ} → SourceGood count i s → MailGood count i (with_source m s)
+  pub sourced_good : {s : Option ℕ} → SourceGood count i s → MailGood count i (with_source m s)
   sourced_good s = record { notes = g.notes; queue = g.queue; source = s }
 
 -- ---- past the count
@@ -110,8 +111,12 @@ zero_mail_is i {m} f h = λ k. record { notes = notes k; queue = record { report
         ext_get_or zero_report m.queue.reports (replicate queue_limit zero_report) f.queue.slots
         (λ j l. g.queue.rest j (omega (arith, len)) ∙ sym (zero_report_at j))
 
-    source : m.source ≡ 0
-    source = omega (arith, g.source.within)
+    none : (s : Option ℕ) → SourceGood 0 i s → s ≡ None
+    none None h = refl
+    none (Some s) h = absurd (omega (arith, h.within))
+
+    source : m.source ≡ None
+    source = none m.source g.source
 
 pub zero_mail_ok : (i : ℕ) → mail_ok 0 i zero_mail ≡ true
 zero_mail_ok i = good_mail zero_good

@@ -1,4 +1,5 @@
 -- What is done to mail that fits gives mail that fits. Assumes nothing.
+use Rattle.std.proofs.Common.{Option, IfSome}
 use mathlib.Core.Path.{refl, ◌∙◌}
 use mathlib.Core.Logic.{⊎_elim}
 use Prim.Native.Nat.{ℕ, suc, ◌<◌, ◌^◌}
@@ -26,7 +27,7 @@ pub fits_empty_queue : FitsQueue empty_queue
 fits_empty_queue = record { slots = refl; len = omega arith; each = λ i l. rw (zero_report_at i) fits_zero_report }
 
 pub fits_zero_mail : FitsMail zero_mail
-fits_zero_mail = record { slots = refl; each = λ i l. rw (zero_note_at i) fits_zero_note; queue = fits_empty_queue; source = omega arith }
+fits_zero_mail = record { slots = refl; each = λ i l. rw (zero_note_at i) fits_zero_note; queue = fits_empty_queue; source = tt }
 
 -- ---- queues
 
@@ -78,5 +79,5 @@ module _ {m : Mail} (f : FitsMail m) where
   pub fits_emptied : FitsMail (emptied m)
   fits_emptied = record { slots = refl; each = fits_zero_mail.each; queue = fits_empty_queue; source = f.source }
 
-  pub fits_sourced : {s : ℕ} → s < 2 ^ 64 → FitsMail (with_source m s)
+  pub fits_sourced : {s : Option ℕ} → IfSome s (λ b. b < 2 ^ 64) → FitsMail (with_source m s)
   fits_sourced h = record { slots = f.slots; each = f.each; queue = f.queue; source = h }

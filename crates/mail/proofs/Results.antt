@@ -1,4 +1,5 @@
 -- Each public function's contract allows one result, whatever the arguments. Assumes nothing.
+use Rattle.std.proofs.Common.{Option}
 use mathlib.Core.Bool.{Bool}
 use Prim.Native.Nat.{ℕ}
 use Rattle.base.proofs.Results.{OneResult, one_result}
@@ -62,7 +63,7 @@ taken_lem m = one_result (mails.taken m)
 pub emptied_lem : (m : Mail) → OneResult (λ x. emptied_reads.Learnt tt (m, tt) x (m, tt))
 emptied_lem m = one_result (mails.emptied m)
 
-pub with_source_lem : (m : Mail) (source : ℕ) → OneResult (λ x. with_source_reads.Learnt tt (m, (source, tt)) x (m, (source, tt)))
+pub with_source_lem : (m : Mail) (source : Option ℕ) → OneResult (λ x. with_source_reads.Learnt tt (m, (source, tt)) x (m, (source, tt)))
 with_source_lem m source = one_result (with_source m source)
 
 pub is_unused_lem : (n : Note) → OneResult (λ x. is_unused_reads.Learnt tt (n, tt) x (n, tt))
@@ -83,7 +84,7 @@ slot_ok_lem count live r = one_result (slot_ok count live r)
 pub queue_ok_lem : (q : Queue) (count : ℕ) → OneResult (λ x. queue_ok_reads.Learnt tt (q, (count, tt)) x (q, (count, tt)))
 queue_ok_lem q count = one_result (queue_ok count q)
 
-pub source_ok_lem : (count i source : ℕ) → OneResult (λ x. source_ok_reads.Learnt tt (count, (i, (source, tt))) x (count, (i, (source, tt))))
+pub source_ok_lem : (count i : ℕ) (source : Option ℕ) → OneResult (λ x. source_ok_reads.Learnt tt (count, (i, (source, tt))) x (count, (i, (source, tt))))
 source_ok_lem count i source = one_result (source_ok count i source)
 
 pub mail_ok_lem : (m : Mail) (count i : ℕ) → OneResult (λ x. mail_ok_reads.Learnt tt (m, (count, (i, tt))) x (m, (count, (i, tt))))

@@ -1,5 +1,5 @@
 -- What a server knows of others, by value: its row of notes, its queue and its source. Assumes nothing.
-use Rattle.std.specs.Prelude.{cond, List, ℕ, get_or, set, replicate}
+use Rattle.std.specs.Prelude.{cond, List, ℕ, get_or, set, replicate, Option, None}
 use Rattle.mail.specs.declared.Report.{Report}
 use Rattle.mail.specs.declared.Note.{Note}
 use Rattle.mail.specs.declared.Queue.{Queue}
@@ -11,9 +11,9 @@ use Rattle.mail.specs.Queues.{empty_queue, queued, oldest_taken}
 abbrev pub note_slots : ℕ
 note_slots = 7
 
--- the source is none, which is 0, or a server, which is its number plus 1
+-- no notes, no reports, no source
 abbrev pub zero_mail : Mail
-zero_mail = record { notes = replicate note_slots zero_note; queue = empty_queue; source = 0 }
+zero_mail = record { notes = replicate note_slots zero_note; queue = empty_queue; source = None }
 
 abbrev pub note_at : Mail → ℕ → Note
 note_at m i = get_or m.notes i zero_note
@@ -25,7 +25,7 @@ with_notes m ns = record { notes = ns; queue = m.queue; source = m.source }
 abbrev pub with_queue : Mail → Queue → Mail
 with_queue m q = record { notes = m.notes; queue = q; source = m.source }
 
-abbrev pub with_source : Mail → ℕ → Mail
+abbrev pub with_source : Mail → Option ℕ → Mail
 with_source m s = record { notes = m.notes; queue = m.queue; source = s }
 
 -- the note of the server that a report is about gives way to it where it is greater

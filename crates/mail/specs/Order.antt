@@ -1,5 +1,5 @@
 -- Which mail a well-formed record may hold, as 02 words it. Assumes nothing.
-use Rattle.std.specs.Prelude.{Bool, cond, not, ◌&&◌, ◌||◌, ℕ, suc, eqb, ltb, leb}
+use Rattle.std.specs.Prelude.{Bool, true, cond, not, ◌&&◌, ◌||◌, ℕ, eqb, ltb, leb, Option, Some, None}
 use Rattle.base.specs.Numbers.{every}
 use Rattle.server_log.specs.Logs.{highest_position}
 use Rattle.mail.specs.declared.Report.{Report}
@@ -33,8 +33,9 @@ unfoldable pub queue_ok : ℕ → Queue → Bool
 queue_ok count q = leb q.len queue_limit && every queue_limit (λ i. slot_ok count (ltb i q.len) (report_at q i))
 
 -- the source of server i is none, or another counted server
-unfoldable pub source_ok : ℕ → ℕ → ℕ → Bool
-source_ok count i source = eqb source 0 || (leb source count && not (eqb source (suc i)))
+unfoldable pub source_ok : ℕ → ℕ → Option ℕ → Bool
+source_ok count i None = true
+source_ok count i (Some s) = ltb s count && not (eqb s i)
 
 -- the mail of server i, where so many servers are counted; of none, where i is past the count: then it is all zero
 unfoldable pub mail_ok : ℕ → ℕ → Mail → Bool

@@ -1,5 +1,5 @@
 -- What the types of reports, notes, queues and mail give. Assumes nothing.
-use Rattle.std.specs.Prelude.{◌≡◌, ℕ, ◌<◌, ◌≤◌, ◌^◌, length}
+use Rattle.std.specs.Prelude.{◌≡◌, ℕ, ◌<◌, ◌≤◌, ◌^◌, length, IfSome}
 use Rattle.base.specs.Numbers.{byte}
 use Rattle.clock.specs.Times.{limit}
 use Rattle.mail.specs.declared.Report.{Report}
@@ -28,4 +28,4 @@ pub record FitsMail (m : Mail) : Type 0 where
   pub slots : length m.notes ≡ note_slots
   pub each : (i : ℕ) → i < note_slots → FitsNote (note_at m i)
   pub queue : FitsQueue m.queue
-  pub source : m.source < 2 ^ 64
+  pub source : IfSome m.source (λ s. s < 2 ^ 64)

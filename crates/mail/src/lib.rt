@@ -1,5 +1,5 @@
 // What a server knows of others, by value: a row of notes, a queue of reports and a source.
-#![tactic(auto)]
+#![tactic(auto, unfolding(crate::specs::Reports::gives_way, crate::specs::Queues::queued, crate::specs::Mails::noted, crate::specs::Order::is_unused, crate::specs::Order::is_used, crate::specs::Order::note_ok, crate::specs::Order::slot_ok, crate::specs::Order::source_ok, crate::specs::Order::mail_ok))]
 
 ghost use Rattle.std.specs.Prelude.{◌≡◌};
 ghost use Rattle.mail.specs.Reports.{note_of, gives_way};
@@ -7,8 +7,10 @@ ghost use Rattle.mail.specs.Queues.{report_at, queued, oldest_taken};
 ghost use Rattle.mail.specs.Mails.{note_at, with_source, noted, received, taken, emptied};
 ghost use Rattle.mail.specs.Order.{is_unused, is_used, note_ok, notes_ok, slot_ok, queue_ok, source_ok, mail_ok};
 
+use std::array;
+
 // What a server tells of itself after it took over entries: its number, its term, its last term and its length.
-#[derive(Clone, Copy)]
+#[derive(Clone, Copy, PartialEq, Eq)]
 pub struct Report {
     pub who: u8,
     pub term: u16,
@@ -16,8 +18,8 @@ pub struct Report {
     pub len: u16,
 }
 
-// The greatest report of one server so far; unused it is zero.
-#[derive(Clone, Copy)]
+// The greatest report of one server so far, by its term, then its last term, then its length; unused it is zero.
+#[derive(Clone, Copy, PartialEq, Eq, PartialOrd, Ord)]
 pub struct Note {
     pub term: u16,
     pub last: u16,
@@ -25,18 +27,19 @@ pub struct Note {
 }
 
 // Oldest first, slots past the length zero.
-#[derive(Clone, Copy)]
+// Kept: an array beside its length, as document 01's log is: a record may hold any length, and `queue_ok` refuses one past the array.
+#[derive(Clone, Copy, PartialEq, Eq)]
 pub struct Queue {
     pub reports: [Report; QUEUE_LIMIT],
     pub len: usize,
 }
 
-// The source is 0 for none, and a server's number plus 1 otherwise.
-#[derive(Clone, Copy)]
+// The source is the server that it last took over entries from; none before, and after a restart.
+#[derive(Clone, Copy, PartialEq, Eq)]
 pub struct Mail {
     pub notes: [Note; NOTE_SLOTS],
     pub queue: Queue,
-    pub source: usize,
+    pub source: Option<usize>,
 }
 
 // How many reports a queue can hold.
@@ -66,7 +69,7 @@ pub const EMPTY_QUEUE: Queue = Queue {
 pub const ZERO_MAIL: Mail = Mail {
     notes: [ZERO_NOTE; NOTE_SLOTS],
     queue: EMPTY_QUEUE,
-    source: 0,
+    source: None,
 };
 
 // What a report says.
@@ -84,42 +87,26 @@ pub fn note_of(r: Report) -> Note
 pub fn gives_way(d: Note, e: Note) -> bool
     ensures { result ≡ gives_way d e }
 {
-    if d.term < e.term {
-        return true;
-    }
-    if d.term != e.term {
-        return false;
-    }
-    if d.last < e.last {
-        return true;
-    }
-    if d.last != e.last {
-        return false;
-    }
-    d.len < e.len
+    d < e
 }
 
 // The note about server i; the zero note where there is none.
 pub fn note_at(m: Mail, i: usize) -> Note
     ensures { result ≡ note_at m i }
 {
-    if NOTE_SLOTS <= i {
-        return ZERO_NOTE;
-    }
-    m.notes[i]
+    m.notes.get(i).copied().unwrap_or(ZERO_NOTE)
 }
 
 // The queue with one report more; to a full one it is lost.
 pub fn queued(q: Queue, r: Report) -> Queue
     ensures { result ≡ queued q r }
 {
-    let n = q.len;
-    if QUEUE_LIMIT <= n {
+    if QUEUE_LIMIT <= q.len {
         return q;
     }
     let mut p = q;
-    p.reports[n] = r;
-    p.len = n + 1;
+    p.reports[q.len] = r;
+    p.len = q.len + 1;
     p
 }
 
@@ -127,42 +114,29 @@ pub fn queued(q: Queue, r: Report) -> Queue
 pub fn report_at(q: Queue, i: usize) -> Report
     ensures { result ≡ report_at q i }
 {
-    if QUEUE_LIMIT <= i {
-        return ZERO_REPORT;
-    }
-    q.reports[i]
+    q.reports.get(i).copied().unwrap_or(ZERO_REPORT)
 }
 
 // The queue without its oldest report.
 pub fn oldest_taken(q: Queue) -> Queue
     ensures { result ≡ oldest_taken q }
 {
-    let mut p = q;
-    let mut i = 0;
-    while i < QUEUE_LIMIT {
-        let r = report_at(q, i + 1);
-        p.reports[i] = r;
-        i += 1;
+    Queue {
+        reports: array::from_fn(|i| report_at(q, i + 1)),
+        len: q.len.saturating_sub(1),
     }
-    p.len = if q.len == 0 { 0 } else { q.len - 1 };
-    p
 }
 
 // The mail with the report noted, where its note gives way.
 pub fn noted(m: Mail, r: Report) -> Mail
     ensures { result ≡ noted m r }
 {
-    let i = r.who as usize;
+    let i = usize::from(r.who);
     if NOTE_SLOTS <= i {
         return m;
     }
-    let d = m.notes[i];
-    let e = note_of(r);
-    if !gives_way(d, e) {
-        return m;
-    }
     let mut o = m;
-    o.notes[i] = e;
+    o.notes[i] = m.notes[i].max(note_of(r));
     o
 }
 
@@ -170,18 +144,20 @@ pub fn noted(m: Mail, r: Report) -> Mail
 pub fn received(m: Mail, r: Report) -> Mail
     ensures { result ≡ received m r }
 {
-    let q = m.queue;
-    let p = queued(q, r);
-    Mail { queue: p, ..m }
+    Mail {
+        queue: queued(m.queue, r),
+        ..m
+    }
 }
 
 // The mail without its oldest report.
 pub fn taken(m: Mail) -> Mail
     ensures { result ≡ taken m }
 {
-    let q = m.queue;
-    let p = oldest_taken(q);
-    Mail { queue: p, ..m }
+    Mail {
+        queue: oldest_taken(m.queue),
+        ..m
+    }
 }
 
 // The mail with no notes and no reports; the source stays.
@@ -195,7 +171,7 @@ pub fn emptied(m: Mail) -> Mail
 }
 
 // The mail with this source.
-pub fn with_source(m: Mail, source: usize) -> Mail
+pub fn with_source(m: Mail, source: Option<usize>) -> Mail
     ensures { result ≡ with_source m source }
 {
     Mail {
@@ -208,114 +184,68 @@ pub fn with_source(m: Mail, source: usize) -> Mail
 pub fn is_unused(n: Note) -> bool
     ensures { result ≡ is_unused n }
 {
-    if n.term != 0 {
-        return false;
-    }
-    if n.last != 0 {
-        return false;
-    }
-    n.len == 0
+    n == ZERO_NOTE
 }
 
 // Whether a note of this server is a used one, where so many servers are counted.
 pub fn is_used(count: usize, who: usize, n: Note) -> bool
     ensures { result ≡ is_used count who n }
 {
-    if count <= who {
-        return false;
-    }
-    if n.len < 1 {
-        return false;
-    }
-    if server_log::HIGHEST_POSITION < n.len as usize {
-        return false;
-    }
-    if n.last < 1 {
-        return false;
-    }
-    n.last <= n.term
+    who < count
+        && 1 <= n.len
+        && usize::from(n.len) <= server_log::HIGHEST_POSITION
+        && 1 <= n.last
+        && n.last <= n.term
 }
 
 pub fn note_ok(count: usize, i: usize, n: Note) -> bool
     ensures { result ≡ note_ok count i n }
 {
-    if is_unused(n) {
-        return true;
-    }
-    is_used(count, i, n)
+    is_unused(n) || is_used(count, i, n)
 }
 
 // Whether every note is unused, or a used one of a counted server.
 pub fn notes_ok(m: Mail, count: usize) -> bool
     ensures { result ≡ notes_ok count m }
 {
-    let mut i = 0;
-    while i < NOTE_SLOTS {
-        let n = m.notes[i];
-        if !note_ok(count, i, n) {
-            return false;
-        }
-        i += 1;
-    }
-    true
+    m.notes
+        .iter()
+        .enumerate()
+        .all(|(i, n)| note_ok(count, i, *n))
 }
 
 // Whether a slot holds a report of a counted server, or is zero where it is past the length.
 pub fn slot_ok(count: usize, live: bool, r: Report) -> bool
     ensures { result ≡ slot_ok count live r }
 {
-    let n = note_of(r);
     if live {
-        return is_used(count, r.who as usize, n);
+        is_used(count, usize::from(r.who), note_of(r))
+    } else {
+        r == ZERO_REPORT
     }
-    if r.who != 0 {
-        return false;
-    }
-    is_unused(n)
 }
 
 // Whether the queue holds reports of counted servers, and nothing past its length.
 pub fn queue_ok(q: Queue, count: usize) -> bool
     ensures { result ≡ queue_ok count q }
 {
-    let len = q.len;
-    if QUEUE_LIMIT < len {
-        return false;
-    }
-    let mut i = 0;
-    while i < QUEUE_LIMIT {
-        let r = q.reports[i];
-        if !slot_ok(count, i < len, r) {
-            return false;
-        }
-        i += 1;
-    }
-    true
+    q.len <= QUEUE_LIMIT
+        && q.reports
+            .iter()
+            .enumerate()
+            .all(|(i, r)| slot_ok(count, i < q.len, *r))
 }
 
 // Whether server i may have this source.
-pub fn source_ok(count: usize, i: usize, source: usize) -> bool
+pub fn source_ok(count: usize, i: usize, source: Option<usize>) -> bool
     ensures { result ≡ source_ok count i source }
 {
-    if source == 0 {
-        return true;
-    }
-    if count < source {
-        return false;
-    }
-    source - 1 != i
+    source.is_none_or(|s| s < count && s != i)
 }
 
 // Whether server i may have this mail, where so many servers are counted.
 pub fn mail_ok(m: Mail, count: usize, i: usize) -> bool
     ensures { result ≡ mail_ok count i m }
 {
-    if !notes_ok(m, count) {
-        return false;
-    }
-    let q = m.queue;
-    if !queue_ok(q, count) {
-        return false;
-    }
-    source_ok(count, i, m.source)
+    notes_ok(m, count) && queue_ok(m.queue, count) && source_ok(count, i, m.source)
 }

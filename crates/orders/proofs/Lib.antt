@@ -1,3 +1,2 @@
--- The orders of a text. Assumes nothing.
-pub mod Ordering
+-- Laws for the function of this room. Assumes nothing.
 pub mod Results

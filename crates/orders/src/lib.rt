@@ -1,13 +1,13 @@
 // What the program is ordered to do: a short line, which the launcher writes.
 #![tactic(auto)]
 
-ghost use Rattle.std.specs.Prelude.{◌≡◌};
+ghost use Rattle.std.specs.Prelude.{◌≡◌, None};
 ghost use Rattle.words.specs.Words.{framed};
-ghost use Rattle.orders.specs.Orders.{order_bytes, long_of, orders_of, known_in, orders_in};
-ghost use Rattle.orders.specs.declared.Ordered.TheVariants.{Unknown};
+ghost use Rattle.orders.specs.Orders.{order_bytes, long_at, end_of_stretch, orders_of, known_in, orders_in};
 
 use cluster::sets;
 use lines::LINE_FEED;
+use words::line::read_bytes;
 
 const BYTES: usize = 12;
 
@@ -15,9 +15,6 @@ const ORDER_CHARS: usize = hex_text::CHARS * BYTES;
 
 // How long the line is, with its line feed.
 pub const ORDER_LINE: usize = ORDER_CHARS + 1;
-
-// How many values a word has.
-const WORD: usize = 65536;
 
 // How many bits of the first byte are orders.
 const ORDER_BITS: usize = 6;
@@ -35,21 +32,23 @@ pub struct Orders {
     pub key: u8,
     pub value: u16,
     pub before: usize,
-    pub last: usize,
+    pub last: Option<usize>,
 }
 
-// The orders that a text is, if all of it is known.
-#[derive(Clone, Copy)]
-pub enum Ordered {
-    Known(Orders),
-    Unknown,
-}
-
-// The number of two words, the high one first.
-fn long(high: u16, low: u16) -> usize
-    ensures { result ≡ long_of high low }
+// The number of four bytes.
+#[tactic(auto, unfolding(crate::specs::Orders::long_of, words::specs::Words::word_of))]
+fn long(b: [u8; 4]) -> usize
+    ensures { result ≡ long_at b 0 }
 {
-    high as usize * WORD + low as usize
+    u32::from_be_bytes(b) as usize
+}
+
+// Where a trace's stretch ends: with 0 it goes on to the last line.
+#[tactic(auto, unfolding(crate::specs::Orders::end_of_stretch))]
+fn end_of_stretch(n: usize) -> Option<usize>
+    ensures { result ≡ end_of_stretch n }
+{
+    (n != 0).then_some(n)
 }
 
 // The orders of the bytes.
@@ -65,48 +64,37 @@ fn orders_of(b: [u8; BYTES]) -> Orders
         brief: sets::is_member(b[0], 5),
         key: b[1],
         value: words::word(b[2], b[3]),
-        before: long(words::word(b[4], b[5]), words::word(b[6], b[7])),
-        last: long(words::word(b[8], b[9]), words::word(b[10], b[11])),
+        before: long([b[4], b[5], b[6], b[7]]),
+        last: end_of_stretch(long([b[8], b[9], b[10], b[11]])),
     }
 }
 
 // The same, where no other bit is set.
-fn known_in(b: [u8; BYTES]) -> Ordered
+#[tactic(auto, unfolding(crate::specs::Orders::known_in))]
+fn known_in(b: [u8; BYTES]) -> Option<Orders>
     ensures { result ≡ known_in b }
 {
-    if !sets::within(b[0], ORDER_BITS) {
-        return Ordered::Unknown;
-    }
-    Ordered::Known(orders_of(b))
+    sets::within(b[0], ORDER_BITS).then(|| orders_of(b))
 }
 
 // The orders of a line without its line feed.
-fn line_in(line: &[u8]) -> Ordered
-    ensures { result ≡ framed order_bytes known_in Unknown line.now }
+#[tactic(auto, using(words::proofs::Framed::framed_none, words::proofs::Framed::framed_some))]
+fn line_in(line: &[u8]) -> Option<Orders>
+    ensures { result ≡ framed order_bytes known_in None line.now }
 {
-    if line.len() != ORDER_CHARS {
-        return Ordered::Unknown;
-    }
-    if !hex_text::all_hex(line) {
-        return Ordered::Unknown;
-    }
-    let mut b = [0u8; BYTES];
-    hex_text::unhex(line, &mut b);
-    known_in(b)
+    known_in(read_bytes(line)?)
 }
 
 // The orders of a text, whatever it is; an empty one orders nothing.
-pub fn orders_in(text: &[u8]) -> Ordered
+#[tactic(auto, unfolding(crate::specs::Orders::orders_in))]
+pub fn orders_in(text: &[u8]) -> Option<Orders>
     ensures { result ≡ orders_in text.now }
 {
-    if text.len() == 0 {
-        return Ordered::Known(orders_of([0; BYTES]));
+    if text.is_empty() {
+        return Some(orders_of([0; BYTES]));
     }
-    if text.len() != ORDER_LINE {
-        return Ordered::Unknown;
-    }
-    if text[ORDER_CHARS] != LINE_FEED {
-        return Ordered::Unknown;
+    if text.len() != ORDER_LINE || text[ORDER_CHARS] != LINE_FEED {
+        return None;
     }
     line_in(&text[..ORDER_CHARS])
 }

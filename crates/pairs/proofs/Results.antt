@@ -1,5 +1,5 @@
 -- Each public function's contract allows one result, whatever the arguments. Assumes nothing.
-use Prim.Native.Nat.{ℕ, max}
+use Prim.Native.Nat.{ℕ}
 use Rattle.base.proofs.Results.{OneResult, one_result}
 use Rattle.server_log.specs.declared.Log.{Log}
 use Rattle.server_log.specs.declared.rows.Latest.{Latest}
@@ -8,8 +8,6 @@ use Rattle.pairs.specs.Hears.{hears_of, stays_primary, takes_commit}
 use Rattle.pairs.specs.Pulls.{may_join, pulls_of, took_of}
 use Rattle.pairs.specs.Reports.{sent_of}
 use Rattle.pairs.specs.RollsBack.{rolls_back_of}
-use Rattle.pairs.proofs.greater_term.Reads as greater_term_reads
-use Rattle.pairs.proofs.greater.Reads as greater_reads
 use Rattle.pairs.proofs.hears.takes_commit.Reads as takes_commit_reads
 use Rattle.pairs.proofs.hears.stays_primary.Reads as stays_primary_reads
 use Rattle.pairs.proofs.hears.hears.Reads as hears_reads
@@ -18,12 +16,6 @@ use Rattle.pairs.proofs.pulls.may_join.Reads as may_join_reads
 use Rattle.pairs.proofs.pulls.pulls.Reads as pulls_reads
 use Rattle.pairs.proofs.reports.sent.Reads as sent_reads
 use Rattle.pairs.proofs.rolls_back.rolls_back.Reads as rolls_back_reads
-
-pub greater_term_lem : (m n : ℕ) → OneResult (λ x. greater_term_reads.Learnt tt (m, (n, tt)) x (m, (n, tt)))
-greater_term_lem m n = one_result (max m n)
-
-pub greater_lem : (m n : ℕ) → OneResult (λ x. greater_reads.Learnt tt (m, (n, tt)) x (m, (n, tt)))
-greater_lem m n = one_result (max m n)
 
 pub takes_commit_lem : (s t : Server) → OneResult (λ x. takes_commit_reads.Learnt tt (s, (t, tt)) x (s, (t, tt)))
 takes_commit_lem s t = one_result (takes_commit s t)

@@ -6,9 +6,9 @@ use Rattle.server_log.specs.Logs.{live}
 use Rattle.cluster.specs.declared.Head.{Head}
 use Rattle.cluster.specs.declared.Server.{Server}
 use Rattle.cluster.specs.Servers.{with_term, with_primary, with_commit, with_time, with_head, with_committed, committed_to}
-use Rattle.steps.specs.declared.Sends.TheVariants.{Nothing}
 use Rattle.steps.specs.declared.Stepped.{Stepped}
 use Rattle.steps.specs.declared.Answer.TheVariants.{Done}
+use Rattle.steps.specs.Answers.{answering}
 
 -- b's commit point is above a's, and a holds an entry equal to b's there
 unfoldable pub takes_commit : Server → Server → Bool
@@ -34,4 +34,4 @@ heard_of s t =
     (committed_to s s.log (heard_commit s t))
 
 abbrev pub hears_of : Server → Server → Stepped
-hears_of s t = record { server = heard_of s t; answer = Done; sends = Nothing }
+hears_of s t = answering (heard_of s t) Done

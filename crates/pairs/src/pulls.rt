@@ -3,35 +3,29 @@ ghost use Rattle.std.specs.Prelude.{◌≡◌};
 ghost use Rattle.pairs.specs.Pulls.{may_join, took_of, pulls_of};
 
 use super::reports::sent;
-use super::{greater, greater_term};
 use cluster::{Head, Server};
 use server_log::Log;
 use server_log::rows::{Latest, Rows};
 use steps::{Refusal, Stepped};
 
 // Server a with the log g and its row, and the greater term, cluster time and commit point of both.
+#[tactic(auto, unfolding(crate::specs::Pulls::took_of))]
 pub fn took(s: Server, t: Server, g: Log, whole: Latest) -> Server
     ensures { result ≡ took_of s t g whole }
 {
-    let h = s.head;
-    let x = h.time;
-    let y = t.head.time;
-    let time = clock::later(x, y);
-    let term = greater_term(h.term, t.head.term);
-    let commit = greater(h.commit, t.head.commit);
+    let time = clock::later(s.head.time, t.head.time);
+    let term = s.head.term.max(t.head.term);
+    let commit = s.head.commit.max(t.head.commit);
     let committed = cluster::committed_to(s, g, commit);
     Server {
         head: Head {
-            term: term,
-            commit: commit,
-            time: time,
-            ..h
+            term,
+            commit,
+            time,
+            ..s.head
         },
         log: g,
-        rows: Rows {
-            whole: whole,
-            committed: committed,
-        },
+        rows: Rows { whole, committed },
         ..s
     }
 }
@@ -40,30 +34,21 @@ pub fn took(s: Server, t: Server, g: Log, whole: Latest) -> Server
 pub fn may_join(g: Log, h: Log, n: usize) -> bool
     ensures { result ≡ may_join g h n }
 {
-    if n == 0 {
-        return true;
-    }
-    server_log::equal_at(g, h, n)
+    n == 0 || server_log::equal_at(g, h, n)
 }
 
 pub fn pulls(s: Server, t: Server, a: u8, b: u8) -> Stepped
     ensures { result ≡ pulls_of s t a b }
 {
-    let g = s.log;
-    let h = t.log;
     if s.head.primary {
         return steps::refuse(s, Refusal::WrongRole);
     }
-    let n = server_log::length_of(g);
-    if server_log::length_of(h) <= n {
+    let n = server_log::length_of(s.log);
+    if server_log::length_of(t.log) <= n || !may_join(s.log, t.log, n) {
         return steps::refuse(s, Refusal::ConditionUnmet);
     }
-    if !may_join(g, h, n) {
-        return steps::refuse(s, Refusal::ConditionUnmet);
-    }
-    let joined = server_log::join(g, h, n);
-    let rows = s.rows;
-    let before = rows.whole;
-    let whole = server_log::rows::latest_over(before, joined, n, server_log::length_of(joined));
-    sent(took(s, t, joined, whole), a, b)
+    let log = server_log::join(s.log, t.log, n);
+    let end = server_log::length_of(log);
+    let whole = server_log::rows::latest_over(s.rows.whole, log, n, end);
+    sent(took(s, t, log, whole), a, b)
 }

@@ -4,26 +4,26 @@ ghost use Rattle.pairs.specs.Reports.{sent_of};
 
 use cluster::Server;
 use mail::Report;
-use steps::{Answer, Sends, Stepped};
+use steps::{Answer, Sent, Stepped};
 
 // Server a with b for its source, its length for an answer, and its report for b.
 pub fn sent(s: Server, a: u8, b: u8) -> Stepped
     ensures { result ≡ sent_of a b s }
 {
-    let g = s.log;
-    let m = s.mail;
-    let n = server_log::length_of(g);
-    let r = Report {
+    let n = server_log::length_of(s.log);
+    let report = Report {
         who: a,
         term: s.head.term,
-        last: server_log::last_term(g),
+        last: server_log::last_term(s.log),
         len: steps::number(n),
     };
-    let from = b as usize;
-    let told = mail::with_source(m, from + 1);
+    let to = usize::from(b);
     Stepped {
-        server: Server { mail: told, ..s },
+        server: Server {
+            mail: mail::with_source(s.mail, Some(to)),
+            ..s
+        },
         answer: Answer::Reached(n),
-        sends: Sends::To(from, r),
+        sends: Some(Sent { to, report }),
     }
 }

@@ -1,7 +1,6 @@
 -- What a list comes to: the first records of all that its lines are, or the number of the first line that is none. Assumes nothing.
 use mathlib.Core.Path.{◌≡◌, refl, sym, ap, subst, ◌∙◌}
 use mathlib.Core.Logic.{◌⊎◌, inl, inr, ⊎_elim}
-use mathlib.Core.Bool.{Bool, true, false, cond}
 use mathlib.Core.List.{List, [], ◌∷◌, ◌++◌, append_assoc, append-nil}
 use Prim.Native.Nat.{ℕ, suc, ◌+◌, ◌≤◌, ◌<◌, min}
 use native.Mathlib.Numerals.{add-one}
@@ -18,8 +17,7 @@ use Rattle.histories.specs.Rules.{no_record}
 use Rattle.histories.specs.Committed.{Committed}
 use Rattle.histories.specs.Checking.{check_of}
 use Rattle.histories.proofs.Enough.{kept_enough}
-use Rattle.phones.specs.declared.ReadRecord.{ReadRecord}
-use Rattle.phones.specs.declared.ReadRecord.TheVariants.{Record, NoRecord}
+use Rattle.std.specs.Prelude.{Option, Some, None}
 use Rattle.phones.specs.declared.Listed.{Listed}
 use Rattle.phones.specs.Records.{read_record}
 use Rattle.phones.specs.Listed.{most_kept, new_list, records_kept, line_number, with_record, spoilt, takes_in, list_after_read, list_after_line, list_of, Reads, FirstBad}
@@ -36,19 +34,13 @@ number_more n = ⊎_elim below above (lt_or_le (line_number n) most_counted)
 
 -- ---- one line more
 
-after_good : (s : Listed) (read : ReadRecord) → s.bad ≡ false → list_after_read s read ≡ takes_in s read
+after_good : (s : Listed) (read : Option PhoneRecord) → s.bad ≡ None → list_after_read s read ≡ takes_in s read
 unfolding list_after_read
-after_good s read e = ap (λ (b : Bool). cond b s (takes_in s read)) e
+after_good s read e = rw e
 
-pub after_bad : (s : Listed) (read : ReadRecord) → s.bad ≡ true → s ≡ list_after_read s read
+pub after_bad : (s : Listed) (read : Option PhoneRecord) (n : ℕ) → s.bad ≡ Some n → list_after_read s read ≡ s
 unfolding list_after_read
-after_bad s read e = sym (ap (λ (b : Bool). cond b s (takes_in s read)) e)
-
-pub after_none : (s : Listed) (read : ReadRecord) (t : Listed) → s.bad ≡ false → read ≡ NoRecord → t ≡ spoilt s → t ≡ list_after_read s read
-after_none s read t b e p = p ∙ sym (after_good s read b ∙ ap (takes_in s) e)
-
-pub after_record : (s : Listed) (read : ReadRecord) (r : PhoneRecord) (t : Listed) → s.bad ≡ false → read ≡ Record r → t ≡ with_record s r → t ≡ list_after_read s read
-after_record s read r t b e p = p ∙ sym (after_good s read b ∙ ap (takes_in s) e)
+after_bad s read n e = rw e
 
 -- after lines that are the records xs
 pub record Holds (xs : List PhoneRecord) (s : Listed) : Type 0 where
@@ -56,7 +48,7 @@ pub record Holds (xs : List PhoneRecord) (s : Listed) : Type 0 where
   pub count : s.count ≡ min (length xs) most_kept
   pub first : records_kept s ≡ take most_kept xs
   pub number : s.number ≡ line_number (length xs)
-  pub good : s.bad ≡ false
+  pub good : s.bad ≡ None
 
 holds_none : Holds [] new_list
 holds_none = record { room = length-replicate most_kept no_record; count = refl; first = refl; number = refl; good = refl }
@@ -100,12 +92,12 @@ module _ {xs : List PhoneRecord} {s : Listed} (u : Holds xs s) (l : List ℕ) wh
             good = u.good;
           }
 
-  holds_more : (r : PhoneRecord) → read_record l ≡ Record r → Holds (xs ++ (r ∷ [])) (list_after_line s l)
-  holds_more r e = subst (Holds (xs ++ (r ∷ []))) (after_record s (read_record l) r (with_record s r) u.good e refl) (with_more r)
+  holds_more : (r : PhoneRecord) → read_record l ≡ Some r → Holds (xs ++ (r ∷ [])) (list_after_line s l)
+  holds_more r e = subst (Holds (xs ++ (r ∷ []))) (sym (after_good s (read_record l) u.good ∙ ap (takes_in s) e)) (with_more r)
 
   -- the first bad line
-  holds_bad : read_record l ≡ NoRecord → list_after_line s l ≡ spoilt s
-  holds_bad e = sym (after_none s (read_record l) (spoilt s) u.good e refl)
+  holds_bad : read_record l ≡ None → list_after_line s l ≡ spoilt s
+  holds_bad e = after_good s (read_record l) u.good ∙ ap (takes_in s) e
 
 holds_all : (ls : List (List ℕ)) (rs xs : List PhoneRecord) (s : Listed) → Holds xs s → Reads ls rs → Holds (xs ++ rs) (over_lines list_after_line s ls)
 holds_all [] [] xs s u h = rw (append-nil xs) u
@@ -115,9 +107,9 @@ holds_all (l ∷ ls) (r ∷ rs) xs s u h =
     rw (append_assoc xs (r ∷ []) rs) at (holds_all ls rs (xs ++ (r ∷ [])) (list_after_line s l) (holds_more u l r h.0) h.1)
 
 -- once bad it stays as it is
-bad_stays : (ls : List (List ℕ)) (s : Listed) → s.bad ≡ true → over_lines list_after_line s ls ≡ s
-bad_stays [] s e = refl
-bad_stays (l ∷ ls) s e = ap (λ (x : Listed). over_lines list_after_line x ls) (sym (after_bad s (read_record l) e)) ∙ bad_stays ls s e
+bad_stays : (ls : List (List ℕ)) (s : Listed) (n : ℕ) → s.bad ≡ Some n → over_lines list_after_line s ls ≡ s
+bad_stays [] s n e = refl
+bad_stays (l ∷ ls) s n e = ap (λ (x : Listed). over_lines list_after_line x ls) (after_bad s (read_record l) n e) ∙ bad_stays ls s n e
 
 reads_long : (ls : List (List ℕ)) (rs : List PhoneRecord) → Reads ls rs → length rs ≡ length ls
 reads_long [] [] h = refl
@@ -129,7 +121,7 @@ reads_long (l ∷ ls) (r ∷ rs) h = ap suc (reads_long ls rs h.1)
 
 -- every line is a record's: as many are kept as decide the check
 pub record AllRead (rs : List PhoneRecord) (s : Listed) : Type 0 where
-  pub good : s.bad ≡ false
+  pub good : s.bad ≡ None
   pub count : s.count ≡ min (length rs) most_kept
   pub first : records_kept s ≡ take most_kept rs
   pub checked : (g : Committed) → check_of (records_kept s) g ≡ check_of rs g
@@ -146,27 +138,25 @@ all_read text rs h =
 
 -- or some line is the first that is none: its number is kept
 pub first_bad : (text : List ℕ) (before : List (List ℕ)) (l : List ℕ) (after : List (List ℕ)) (rs : List PhoneRecord)
-    → lines text ≡ before ++ (l ∷ after) → Reads before rs → read_record l ≡ NoRecord
-    → ((list_of text).bad ≡ true) × ((list_of text).number ≡ line_number (length before))
+    → lines text ≡ before ++ (l ∷ after) → Reads before rs → read_record l ≡ None
+    → (list_of text).bad ≡ Some (line_number (length before))
 first_bad text before l after rs e h b =
     let s = over_lines list_after_line new_list before in
     let u = holds_all before rs [] new_list holds_none h in
     let k : list_of text ≡ spoilt s =
     ap (over_lines list_after_line new_list) e ∙ lines_append list_after_line new_list before (l ∷ after)
-    ∙ ap (λ (x : Listed). over_lines list_after_line x after) (holds_bad u l b) ∙ bad_stays after (spoilt s) refl in (
-      ap (λ (x : Listed). x.bad) k,
-      ap (λ (x : Listed). x.number) k ∙ u.number ∙ ap line_number (reads_long before rs h),
-    )
+    ∙ ap (λ (x : Listed). over_lines list_after_line x after) (holds_bad u l b) ∙ bad_stays after (spoilt s) s.number refl in
+    ap (λ (x : Listed). x.bad) k ∙ ap Some (u.number ∙ ap line_number (reads_long before rs h))
 
 -- there is no third way
 pub reads_or_bad : (ls : List (List ℕ)) → ((rs : List PhoneRecord) × Reads ls rs) ⊎ FirstBad ls
 reads_or_bad [] = inl ([], tt)
 reads_or_bad (l ∷ ls) = go (read_record l) refl (reads_or_bad ls)
   where
-    go : (x : ReadRecord) → read_record l ≡ x → ((rs : List PhoneRecord) × Reads ls rs) ⊎ FirstBad ls → ((rs : List PhoneRecord) × Reads (l ∷ ls) rs) ⊎ FirstBad (l ∷ ls)
-    go NoRecord e rest = inr (record { before = []; bad = l; after = ls; records = []; split = refl; reads = tt; none = e })
-    go (Record r) e (inl (rs, h)) = inl (r ∷ rs, (e, h))
-    go (Record r) e (inr f) =
+    go : (x : Option PhoneRecord) → read_record l ≡ x → ((rs : List PhoneRecord) × Reads ls rs) ⊎ FirstBad ls → ((rs : List PhoneRecord) × Reads (l ∷ ls) rs) ⊎ FirstBad (l ∷ ls)
+    go None e rest = inr (record { before = []; bad = l; after = ls; records = []; split = refl; reads = tt; none = e })
+    go (Some r) e (inl (rs, h)) = inl (r ∷ rs, (e, h))
+    go (Some r) e (inr f) =
         inr (record {
           before = l ∷ f.before;
           bad = f.bad;

@@ -4,9 +4,8 @@ use denote.Ref.{Bor}
 use mathlib.Core.List.{List}
 use Prim.Native.Nat.{ℕ}
 use Rattle.base.proofs.Results.{OneResult, one_result}
-use Rattle.phones.specs.declared.Listing.{Listing}
 use Rattle.phones.specs.Records.{read_record}
-use Rattle.phones.specs.Listed.{new_listing, listed_by, finished_list}
+use Rattle.phones.specs.Listed.{Listing, new_listing, listed_by, finished_list}
 use Rattle.phones.proofs.read_record.Reads as read_record_reads
 use Rattle.phones.proofs.begin.Reads as begin_reads
 use Rattle.phones.proofs.list.Reads as list_reads

@@ -1,10 +1,8 @@
 -- A phone's record as a line of hexadecimal: session, kind, key, value, position, p and l, numbers of two bytes with the high one first.
 -- Assumes nothing.
-use Rattle.std.specs.Prelude.{List, ℕ}
+use Rattle.std.specs.Prelude.{List, ℕ, Option, Some, None}
 use Rattle.words.specs.Words.{byte_at, word_at, framed}
 use Rattle.histories.specs.declared.PhoneRecord.{PhoneRecord}
-use Rattle.phones.specs.declared.ReadRecord.{ReadRecord}
-use Rattle.phones.specs.declared.ReadRecord.TheVariants.{Record, NoRecord}
 
 -- a record has twelve bytes
 abbrev pub record_bytes : ℕ
@@ -22,8 +20,8 @@ record_in bs =
     }
 
 -- any twelve bytes are a record; whether it may stand in a list is looked at apart
-abbrev pub record_of : List ℕ → ReadRecord
-record_of bs = Record (record_in bs)
+abbrev pub record_of : List ℕ → Option PhoneRecord
+record_of bs = Some (record_in bs)
 
-abbrev pub read_record : List ℕ → ReadRecord
-read_record line = framed record_bytes record_of NoRecord line
+abbrev pub read_record : List ℕ → Option PhoneRecord
+read_record line = framed record_bytes record_of None line

@@ -1,15 +1,17 @@
 // The phones' records as a text: a line of hexadecimal each, read in whatever pieces it arrives, in fixed memory.
-#![tactic(auto)]
+#![tactic(auto, unfolding(words::specs::Words::framed, crate::specs::Records::record_in, crate::specs::Listed::with_record, crate::specs::Listed::list_after_read))]
 
 ghost use Rattle.std.specs.Prelude.{◌≡◌};
 ghost use Rattle.lines.specs.Readers.{line_held};
 ghost use Rattle.phones.specs.Records.{record_in, read_record};
-ghost use Rattle.phones.specs.Listed.{new_listing, with_record, spoilt, list_after_read, listed_by, finished_list};
+ghost use Rattle.phones.specs.Listed.{with_record, list_after_read, list_after_line, new_listing, listed_by, finished_list};
 
 use clock::Time;
 use histories::PhoneRecord;
 use histories::kept::MOST_KEPT;
 use lines::Reader;
+use lines::walks::{self, ByLines, Walk};
+use words::line::read_bytes;
 use words::word;
 
 // The bytes of a record, and its line's characters.
@@ -17,27 +19,26 @@ pub const RECORD_BYTES: usize = 12;
 
 pub const RECORD_CHARS: usize = hex_text::CHARS * RECORD_BYTES;
 
-#[derive(Clone, Copy)]
-pub enum ReadRecord {
-    Record(PhoneRecord),
-    NoRecord,
-}
-
-// The records of a text as far as it was read, of which one too many is kept; the number of the line that is being read; and whether a
-// line before was bad, whose number it is then.
+// The records of a text as far as it was read, of which one too many is kept; the number of the line that is being read; and that of the
+// first line that is no record, if one before was none.
+// Kept: an array and how many of it there are, since memory is fixed, a record more can't fail, and a list goes by value (arrayvec's `ArrayVec` isn't Copy).
 #[derive(Clone, Copy)]
 pub struct Listed {
     pub records: [PhoneRecord; MOST_KEPT],
     pub count: usize,
     pub number: usize,
-    pub bad: bool,
+    pub bad: Option<usize>,
 }
 
 // A list, and the line that is being read.
-#[derive(Clone, Copy)]
-pub struct Listing {
-    pub list: Listed,
-    pub reader: Reader,
+pub type Listing = Walk<Listed>;
+
+impl ByLines for Listed {
+    ghost after = { list_after_line };
+
+    fn line(self, held: Reader) -> Listed {
+        after_line(self, record_held(held))
+    }
 }
 
 fn record_in(b: [u8; RECORD_BYTES]) -> PhoneRecord
@@ -57,47 +58,34 @@ fn record_in(b: [u8; RECORD_BYTES]) -> PhoneRecord
 }
 
 // The record of a line without its line feed.
-pub fn read_record(line: &[u8]) -> ReadRecord
+#[tactic(auto, using(words::proofs::Framed::framed_none, words::proofs::Framed::framed_some))]
+pub fn read_record(line: &[u8]) -> Option<PhoneRecord>
     ensures { result ≡ read_record line.now }
 {
-    if line.len() != RECORD_CHARS {
-        return ReadRecord::NoRecord;
-    }
-    if !hex_text::all_hex(line) {
-        return ReadRecord::NoRecord;
-    }
-    let mut b: [u8; RECORD_BYTES] = [0; RECORD_BYTES];
-    hex_text::unhex(line, &mut b);
-    ReadRecord::Record(record_in(b))
+    let b = read_bytes(line)?;
+    Some(record_in(b))
 }
 
 // The record of the line that was read. A reader of step lines has room for it.
-fn record_held(r: Reader) -> ReadRecord
+fn record_held(r: Reader) -> Option<PhoneRecord>
     ensures { result ≡ read_record (line_held r) }
 {
-    if r.over {
-        return ReadRecord::NoRecord;
+    if r.over || r.fill != RECORD_CHARS {
+        return None;
     }
-    if r.fill != RECORD_CHARS {
-        return ReadRecord::NoRecord;
-    }
-    let held = r.held;
-    read_record(&held[..RECORD_CHARS])
+    read_record(&r.held[..RECORD_CHARS])
 }
 
 // Before the first line.
 pub fn begin() -> Listing
     ensures { result ≡ new_listing }
 {
-    Listing {
-        list: Listed {
-            records: [histories::NO_RECORD; MOST_KEPT],
-            count: 0,
-            number: 1,
-            bad: false,
-        },
-        reader: lines::fresh_reader(),
-    }
+    walks::begin(Listed {
+        records: [histories::NO_RECORD; MOST_KEPT],
+        count: 0,
+        number: 1,
+        bad: None,
+    })
 }
 
 // One record more, kept where there is room.
@@ -114,55 +102,32 @@ fn with_record(s: Listed, r: PhoneRecord) -> Listed
     q
 }
 
-fn spoilt(s: Listed) -> Listed
-    ensures { result ≡ spoilt s }
-{
-    Listed { bad: true, ..s }
-}
-
 // The list after a line that reads so. After the first bad line no other counts.
-fn after_line(s: Listed, read: ReadRecord) -> Listed
+fn after_line(s: Listed, read: Option<PhoneRecord>) -> Listed
     ensures { result ≡ list_after_read s read }
 {
-    if s.bad {
+    if s.bad.is_some() {
         return s;
     }
-    let ReadRecord::Record(r) = read else {
-        return spoilt(s);
-    };
-    with_record(s, r)
+    match read {
+        Some(r) => with_record(s, r),
+        None => Listed {
+            bad: Some(s.number),
+            ..s
+        },
+    }
 }
 
 // The list after one piece more of the text.
 pub fn list(l: Listing, piece: &[u8]) -> Listing
     ensures { result ≡ listed_by l piece.now }
 {
-    let mut s = l.list;
-    let mut reader = l.reader;
-    let mut i: usize = 0;
-    while i < piece.len() {
-        let b = piece[i];
-        i += 1;
-        if b == lines::LINE_FEED {
-            let read = record_held(reader);
-            s = after_line(s, read);
-        }
-        reader = lines::taken(reader, b);
-    }
-    Listing {
-        list: s,
-        reader: reader,
-    }
+    walks::go_on(l, piece)
 }
 
 // The list at the end of the text, where a rest without a line feed counts if it isn't empty.
 pub fn finish(l: Listing) -> Listed
     ensures { result ≡ finished_list l }
 {
-    let s = l.list;
-    let reader = l.reader;
-    if lines::is_empty(reader) {
-        return s;
-    }
-    after_line(s, record_held(reader))
+    walks::finish(l)
 }

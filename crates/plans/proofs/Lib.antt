@@ -1,5 +1,6 @@
 -- The functions that make a plan, and their laws. Assumes nothing.
 pub mod Best
+pub mod Counted
 pub mod Sets
 pub mod Trying
 pub mod Made

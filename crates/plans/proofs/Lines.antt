@@ -1,52 +1,32 @@
 -- The lines as the code has them, who leads, who has the greatest term, and what has to hold before a plan is made. Assumes nothing.
 use mathlib.Core.Path.{◌≡◌, ap, sym, ◌∙◌}
-use mathlib.Core.Bool.{true, false}
+use mathlib.Core.Bool.{Bool, true, false}
 use mathlib.Core.List.{[]}
 use Prim.Native.Nat.{ℕ, ◌≤◌, ◌<◌}
 use native.Mathlib.Omega.{arith}
-use lib.Dec.{ltb}
 use borrow.Author.Tests.{le-leb, lt-leb, lt-ltb, le-ltb, leb-true, leb-false}
-use Rattle.clock.specs.Times.{limit, zero_time}
+use Rattle.clock.specs.Times.{zero_time}
 use Rattle.server_log.specs.Order.{highest_key}
-use Rattle.cluster.specs.declared.Head.{Head}
 use Rattle.cluster.specs.declared.Cluster.{Cluster}
 use Rattle.cluster.specs.Servers.{most_servers, server_at}
-use Rattle.cluster.specs.Sets.{votes}
 use Rattle.cluster.specs.WellFormed.{well_formed}
 use Rattle.steps.specs.declared.Answer.TheVariants.{Done, Refused}
 use Rattle.steps.specs.declared.Refusal.TheVariants.{IllFormed, OutOfRange, LogFull, AtLimit}
-use Rattle.steps.specs.declared.Step.TheVariants.{Elect, Hears, Writes, Advances}
-use Rattle.wholes.specs.Elects.{not_behind}
-use Rattle.plans.specs.declared.By.{By}
-use Rattle.plans.specs.declared.Line.TheVariants as L
+use Rattle.steps.specs.declared.Step.TheVariants.{Elect, Hears, Writes, Advances, TakesReport}
 use Rattle.plans.specs.declared.Work.{Work}
-use Rattle.plans.specs.Moves.{turns, one_by_one, first_refused}
-use Rattle.plans.specs.Plan.{others, may_lead, not_older, chosen, newest_server, all_voters, hearing, plan_lines, plan_for}
-use Rattle.plans.specs.Making.{no_frames, frames_by, is_low, all_room, all_low, planned_of}
-use Rattle.plans.specs.Working.{holds_own_by, best_by, tried_of, work_of, move_of, begun_of, opened_of, closed_of}
+use Rattle.plans.specs.Moves.{turns, one_by_one, first_refused, other, best}
+use Rattle.plans.specs.Plan.{others, not_older, chosen, copies, newest_server, all_voters, hearing, plan_lines, plan_for}
+use Rattle.plans.specs.Making.{no_frames, frames_by, all_room, all_low, planned_of}
+use Rattle.plans.specs.Working.{tried_of, work_of, begun_of, opened_of, closed_of}
 use Rattle.plans.proofs.Best.{best_within}
 use Rattle.plans.proofs.Trying.{work_both}
 use Rattle.plans.proofs.Made.{plan_made}
 
 -- ---- who leads
 
-module _ (c : Cluster) (i k : ℕ) where
-  pub lead_unasked : votes c.followers k ≡ false → true ≡ may_lead c i k
-  unfolding may_lead
-  lead_unasked e = rw e
-
-  module _ (v : votes c.followers k ≡ true) where
-    pub lead_follower : votes c.followers i ≡ false → false ≡ may_lead c i k
-    unfolding may_lead
-    lead_follower e = rw (v, e)
-
-    pub lead_asked : votes c.followers i ≡ true → not_behind (server_at c i) (server_at c k) ≡ may_lead c i k
-    unfolding may_lead
-    lead_asked e = rw (v, e)
-
 -- the best is among the seven
-pub best_small : (by : By) (c : Cluster) → best_by by c < most_servers
-best_small by c = omega (arith, best_within (holds_own_by by c) (others c))
+pub best_small : (h : ℕ → ℕ → Bool) (c : Cluster) → best h (others c) < most_servers
+best_small h c = omega (arith, best_within h (others c))
 
 -- ---- the first line
 
@@ -70,34 +50,13 @@ lines_work c a key value =
     let m = others c in
     let w = work_of (begun_of c) (hearing c a) in
     let v = tried_of (tried_of w (Elect a (all_voters c))) (Writes a key value zero_time) in
-    let u = work_of v (turns (move_of L.Copies a) 0 m) in
-    let t = work_of u (turns (move_of L.Takes a) 0 m) in
+    let u = work_of v (turns (λ k. copies (other a k) a) 0 m) in
+    let t = work_of u (turns (λ k d. TakesReport a) 0 m) in
     let s = tried_of t (Advances a) in
     work_both (begun_of c) (hearing c a) _
-    ∙ work_both v (turns (move_of L.Copies a) 0 m) _
-    ∙ work_both u (turns (move_of L.Takes a) 0 m) _
-    ∙ work_both s (turns (move_of L.Hears a) 0 m) []
-
--- ---- numbers that may grow
-
-module _ (h : Head) where
-  pub low_term : limit ≤ h.term → false ≡ is_low h
-  unfolding is_low
-  low_term a = rw (le-ltb h.term limit a)
-
-  module _ (a : h.term < limit) where
-    pub low_wall : limit ≤ h.wall → false ≡ is_low h
-    unfolding is_low
-    low_wall b = rw (lt-ltb h.term limit a, le-ltb h.wall limit b)
-
-    module _ (b : h.wall < limit) where
-      pub low_p : limit ≤ h.time.p → false ≡ is_low h
-      unfolding is_low
-      low_p d = rw (lt-ltb h.term limit a, lt-ltb h.wall limit b, le-ltb h.time.p limit d)
-
-      pub low_l : h.time.p < limit → ltb h.time.l limit ≡ is_low h
-      unfolding is_low
-      low_l d = rw (lt-ltb h.term limit a, lt-ltb h.wall limit b, lt-ltb h.time.p limit d)
+    ∙ work_both v (turns (λ k. copies (other a k) a) 0 m) _
+    ∙ work_both u (turns (λ k d. TakesReport a) 0 m) _
+    ∙ work_both s (turns (λ k d. Hears (other a k) a) 0 m) []
 
 -- ---- before a plan is made
 

@@ -1,44 +1,19 @@
 -- How the frames are made: the steps are tried on the record, one after the other, until one is refused. Nobody has to believe this: by
 -- `work_made` it gives what `planned_of` says. Assumes nothing.
-use Rattle.std.specs.Prelude.{Bool, cond, ◌||◌, List, [], ◌∷◌, ℕ, leb}
-use Rattle.base.specs.Numbers.{every}
+use Rattle.std.specs.Prelude.{◌≡◌, Bool, cond, ◌||◌, List, [], ◌∷◌, ℕ, ◌<◌, leb}
 use Rattle.clock.specs.Times.{zero_time}
-use Rattle.server_log.specs.Logs.{has_room}
 use Rattle.cluster.specs.declared.Cluster.{Cluster}
-use Rattle.cluster.specs.declared.Server.{Server}
-use Rattle.cluster.specs.Servers.{server_count, server_at}
+use Rattle.cluster.specs.Servers.{most_servers}
 use Rattle.steps.specs.declared.Answer.TheVariants.{Done}
 use Rattle.steps.specs.declared.Step.{Step}
 use Rattle.steps.specs.declared.Step.TheVariants.{Elect, Hears, Writes, Advances, TakesReport}
 use Rattle.steps.specs.Answers.{is_refused}
 use Rattle.rules.specs.Rules.{step_of}
-use Rattle.plans.specs.declared.By.{By}
-use Rattle.plans.specs.declared.By.TheVariants as B
-use Rattle.plans.specs.declared.Line.{Line}
-use Rattle.plans.specs.declared.Line.TheVariants as L
-use Rattle.plans.specs.declared.Need.{Need}
-use Rattle.plans.specs.declared.Need.TheVariants as N
 use Rattle.plans.specs.declared.Planned.{Planned}
 use Rattle.plans.specs.declared.Work.{Work}
-use Rattle.plans.specs.Moves.{Move, turns, other, best}
-use Rattle.plans.specs.Plan.{others, may_lead, not_older, all_voters, hearing, copies}
-use Rattle.plans.specs.Making.{most_frames, no_frames, with_step, is_low}
-
--- what servers are compared by, for the one loop that finds the best
-abbrev pub holds_own_by : By → Cluster → ℕ → ℕ → Bool
-holds_own_by B.Log = may_lead
-holds_own_by B.Term = not_older
-
-abbrev pub best_by : By → Cluster → ℕ
-best_by by c = best (holds_own_by by c) (others c)
-
--- what every counted server has to have, for the one loop that asks
-abbrev pub has_need : Need → Server → Bool
-has_need N.Room s = has_room s.log
-has_need N.Low s = is_low s.head
-
-abbrev pub all_need : Need → Cluster → Bool
-all_need need c = every (server_count c) (λ i. has_need need (server_at c i))
+use Rattle.plans.specs.Moves.{Move, turns, other}
+use Rattle.plans.specs.Plan.{all_voters, hearing, copies}
+use Rattle.plans.specs.Making.{most_frames, no_frames, with_step}
 
 -- a plan that was refused, or has no room, stays as it is
 unfoldable pub is_over : Planned → Bool
@@ -56,11 +31,13 @@ abbrev pub work_of : Work → List Move → Work
 work_of w [] = w
 work_of w (m ∷ ms) = work_of (tried_of w (m w.cluster)) ms
 
--- the move of a number, of the lines that have one for each other server
-abbrev pub move_of : Line → ℕ → ℕ → Move
-move_of L.Copies a k = copies (other a k) a
-move_of L.Takes a k = λ d. TakesReport a
-move_of L.Hears a k = λ d. Hears (other a k) a
+-- what is called for two servers says what h says of them
+abbrev pub AnswersAs : (ℕ → ℕ → Bool → Type 0) → (ℕ → ℕ → Bool) → Type 0
+AnswersAs post h = (i k : ℕ) (b : Bool) → i < most_servers → k < most_servers → post i k b → b ≡ h i k
+
+-- what is called for a number tries the move of that number
+abbrev pub Tries : (Work → ℕ → Work → Type 0) → (ℕ → Move) → Type 0
+Tries post move = (v : Work) (k : ℕ) (r : Work) → k < most_servers → post v k r → r ≡ tried_of v (move k v.cluster)
 
 -- before the first step
 abbrev pub begun_of : Cluster → Work
@@ -72,4 +49,4 @@ opened_of c a key value = tried_of (tried_of (work_of (begun_of c) (hearing c a)
 
 unfoldable pub closed_of : Work → ℕ → ℕ → Work
 closed_of w a m =
-    work_of (tried_of (work_of (work_of w (turns (move_of L.Copies a) 0 m)) (turns (move_of L.Takes a) 0 m)) (Advances a)) (turns (move_of L.Hears a) 0 m)
+    work_of (tried_of (work_of (work_of w (turns (λ k. copies (other a k) a) 0 m)) (turns (λ k d. TakesReport a) 0 m)) (Advances a)) (turns (λ k d. Hears (other a k) a) 0 m)

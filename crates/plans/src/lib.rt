@@ -1,15 +1,14 @@
 // How to get going again: the frames of a plan, made by trying its steps on the record.
 #![tactic(auto)]
 
-ghost use Rattle.std.specs.Prelude.{◌≡◌, cond, ◌<◌, ◌≤◌};
-ghost use Rattle.cluster.specs.Servers.{most_servers, server_count};
-ghost use Rattle.cluster.specs.Sets.{votes};
-ghost use Rattle.plans.specs.Moves.{turns, other, set_from};
-ghost use Rattle.plans.specs.Plan.{others, may_lead, not_older, all_voters, copies, hearing};
-ghost use Rattle.plans.specs.Making.{no_frames, is_low, planned_of};
-ghost use Rattle.plans.specs.Working.{holds_own_by, best_by, has_need, all_need, tried_of, work_of, move_of, begun_of, opened_of, closed_of};
+ghost use Rattle.std.specs.Prelude.{◌≡◌, Bool, ℕ, ◌-◌, ◌<◌, ◌≤◌};
+ghost use Rattle.cluster.specs.Servers.{most_servers};
+ghost use Rattle.plans.specs.Moves.{Move, turns, other, best};
+ghost use Rattle.plans.specs.Plan.{others, may_lead, not_older, chosen, newest_server, all_voters, copies, hearing};
+ghost use Rattle.plans.specs.Making.{no_frames, is_low, all_room, all_low, planned_of};
+ghost use Rattle.plans.specs.Working.{AnswersAs, Tries, tried_of, work_of, begun_of, opened_of, closed_of};
 
-use cluster::{Cluster, Head, Server, sets};
+use cluster::{Cluster, Head, sets};
 use steps::{Answer, Frame, Refusal, Step};
 use wholes::elects::not_behind;
 
@@ -28,6 +27,7 @@ const ZERO_FRAME: Frame = Frame {
 };
 
 // The frames, zero past their number, and done; or none, and the refusal.
+// Kept: an array and how many of it there are, since memory is fixed and a plan goes by value (arrayvec's `ArrayVec` isn't Copy); and no Result, since `given_frames_are_done` and `a_refusal_has_no_frames` of claims speak of the answer and the frames of both.
 #[derive(Clone, Copy)]
 pub struct Planned {
     pub frames: [Frame; MOST_FRAMES],
@@ -42,96 +42,61 @@ pub struct Work {
     pub plan: Planned,
 }
 
-// What servers are compared by: the log, of those that vote; the term.
-#[derive(Clone, Copy)]
-pub enum By {
-    Log,
-    Term,
-}
-
-// What every server has to have: room in its log; numbers that may grow.
-#[derive(Clone, Copy)]
-pub enum Need {
-    Room,
-    Low,
-}
-
-// The lines of the plan that have a move for each other server.
-#[derive(Clone, Copy)]
-pub enum Line {
-    Copies,
-    Takes,
-    Hears,
-}
-
 // The server but a of the number k, ascending.
-fn other_of(a: usize, k: usize) -> usize
+#[tactic(auto, unfolding(crate::specs::Moves::other))]
+fn other_of(a: usize, k: usize) -> u8
     requires { k < most_servers }
     ensures { result ≡ other a k }
 {
-    if k < a {
-        return k;
-    }
-    k + 1
+    if k < a { k as u8 } else { (k + 1) as u8 }
 }
 
 // Whether server i may lead before server k.
+#[tactic(auto, unfolding(crate::specs::Plan::may_lead))]
 fn may_lead(c: Cluster, i: usize, k: usize) -> bool
     requires { (i < most_servers) × (k < most_servers) }
     ensures { result ≡ may_lead c i k }
 {
-    if !sets::does_vote(c.followers, k) {
-        return true;
-    }
-    if !sets::does_vote(c.followers, i) {
-        return false;
-    }
-    let s = c.servers[i];
-    let t = c.servers[k];
-    not_behind(s, t)
+    !sets::does_vote(c.followers, k)
+        || (sets::does_vote(c.followers, i) && not_behind(c.servers[i], c.servers[k]))
 }
 
 // Whether server i's term is not below server k's.
+#[tactic(auto, unfolding(crate::specs::Plan::not_older))]
 fn not_older(c: Cluster, i: usize, k: usize) -> bool
     requires { (i < most_servers) × (k < most_servers) }
     ensures { result ≡ not_older c i k }
 {
-    let s = c.servers[i];
-    let t = c.servers[k];
-    t.head.term <= s.head.term
+    c.servers[k].head.term <= c.servers[i].head.term
 }
 
-// Whether server i holds its own against server k.
-fn holds_own(c: Cluster, by: By, i: usize, k: usize) -> bool
-    requires { (i < most_servers) × (k < most_servers) }
-    ensures { result ≡ holds_own_by by c i k }
+// The lowest of so many servers that holds its own against each after it.
+fn best_of<F: Fn(usize, usize) -> bool>(size: usize, holds_own: F) -> usize
+    requires small { size ≤ most_servers }
+    requires callable { (i : _) (k : _) → i < most_servers → k < most_servers → F.pre holds_own i k }
+    ensures { (h : ℕ → ℕ → Bool) → AnswersAs (F.post holds_own) h → result ≡ best h (size - 1) }
 {
-    match by {
-        By::Log => may_lead(c, i, k),
-        By::Term => not_older(c, i, k),
-    }
-}
-
-// The best server, the lowest of them.
-fn best_by(c: Cluster, by: By) -> usize
-    ensures { result ≡ best_by by c }
-{
-    let size = cluster::server_count(c.count);
     let mut a = 0;
-    let mut i = 1;
-    while i < size {
-        if !holds_own(c, by, a, i) {
+    for i in 1..size {
+        if !holds_own(a, i) {
             a = i;
         }
-        i += 1;
     }
     a
 }
 
-fn bit(yes: bool) -> u8
-    ensures { result ≡ cond yes 1 0 }
+// The server with the greatest term, the lowest of them.
+fn newest_server(c: Cluster) -> usize
+    ensures { result ≡ newest_server c }
 {
-    if yes { 1 } else { 0 }
+    best_of(cluster::server_count(c.count), |i, k| not_older(c, i, k))
+}
+
+// The voter that is to lead: the lowest of those with the greatest last term, then length.
+fn chosen(c: Cluster) -> usize
+    ensures { result ≡ chosen c }
+{
+    best_of(cluster::server_count(c.count), |i, k| may_lead(c, i, k))
 }
 
 // All voters, as a set.
@@ -139,10 +104,8 @@ fn all_voters(c: Cluster) -> u8
     ensures { result ≡ all_voters c }
 {
     let mut set: u8 = 0;
-    let mut i = cluster::server_count(c.count);
-    while 0 < i {
-        i -= 1;
-        set = set * 2 + bit(sets::does_vote(c.followers, i));
+    for i in (0..cluster::server_count(c.count)).rev() {
+        set = set * 2 + u8::from(sets::does_vote(c.followers, i));
     }
     set
 }
@@ -205,31 +168,15 @@ fn copied(w: Work, a: u8, b: u8) -> Work
     tried(w, pull)
 }
 
-// The move of the line of the number k.
-fn turn(w: Work, line: Line, a: usize, k: usize) -> Work
-    requires { (k < most_servers) × (a < most_servers) }
-    ensures { result ≡ tried_of w (move_of line a k w.cluster) }
-{
-    let b = other_of(a, k) as u8;
-    let lead = a as u8;
-    match line {
-        Line::Copies => copied(w, b, lead),
-        Line::Takes => tried(w, Step::TakesReport(lead)),
-        Line::Hears => tried(w, Step::Hears(b, lead)),
-    }
-}
-
-// The moves of a line, m of them.
-fn each_turn(w: Work, line: Line, a: usize, m: usize) -> Work
-    requires { (m ≤ most_servers) × (a < most_servers) }
-    ensures { result ≡ work_of w (turns (move_of line a) 0 m) }
+// The moves of a line, one for each of m numbers.
+fn each_turn<F: Fn(Work, usize) -> Work>(w: Work, m: usize, turn: F) -> Work
+    requires few { m ≤ most_servers }
+    requires callable { (v : _) (k : _) → k < most_servers → F.pre turn v k }
+    ensures { (move : ℕ → Move) → Tries (F.post turn) move → result ≡ work_of w (turns move 0 m) }
 {
     let mut v = w;
-    let mut k = 0;
-    while k < m {
-        let u = v;
-        v = turn(u, line, a, k);
-        k += 1;
+    for k in 0..m {
+        v = turn(v, k);
     }
     v
 }
@@ -238,56 +185,36 @@ fn each_turn(w: Work, line: Line, a: usize, m: usize) -> Work
 fn others_of(c: Cluster) -> usize
     ensures { result ≡ others c }
 {
-    let size = cluster::server_count(c.count);
-    if size == 0 {
-        return 0;
-    }
-    size - 1
+    cluster::server_count(c.count).saturating_sub(1)
 }
 
 // Whether the term, the wall clock and the numbers of the cluster time may grow.
+#[tactic(auto, unfolding(crate::specs::Making::is_low))]
 fn is_low(h: Head) -> bool
     ensures { result ≡ is_low h }
 {
-    let t = h.time;
-    if clock::LIMIT <= h.term {
-        return false;
-    }
-    if clock::LIMIT <= h.wall {
-        return false;
-    }
-    if clock::LIMIT <= t.p {
-        return false;
-    }
-    t.l < clock::LIMIT
+    h.term < clock::LIMIT
+        && h.wall < clock::LIMIT
+        && h.time.p < clock::LIMIT
+        && h.time.l < clock::LIMIT
 }
 
-// Whether the server has what every server has to have.
-fn has_need(s: Server, need: Need) -> bool
-    ensures { result ≡ has_need need s }
-{
-    let g = s.log;
-    let h = s.head;
-    match need {
-        Need::Room => server_log::has_room(g),
-        Need::Low => is_low(h),
-    }
-}
-
-// Whether every counted server has it.
-fn all_need(c: Cluster, need: Need) -> bool
-    ensures { result ≡ all_need need c }
+// Whether every counted log has room.
+fn all_room(c: Cluster) -> bool
+    ensures { result ≡ all_room c }
 {
     let size = cluster::server_count(c.count);
-    let mut i = 0;
-    while i < size {
-        let s = c.servers[i];
-        if !has_need(s, need) {
-            return false;
-        }
-        i += 1;
-    }
-    true
+    c.servers[..size]
+        .iter()
+        .all(|s| server_log::has_room(s.log))
+}
+
+// Whether every counted server has numbers that may grow.
+fn all_low(c: Cluster) -> bool
+    ensures { result ≡ all_low c }
+{
+    let size = cluster::server_count(c.count);
+    c.servers[..size].iter().all(|s| is_low(s.head))
 }
 
 // The first line: a hears b, who has the greatest term, where its own is below that.
@@ -295,12 +222,12 @@ fn heard_first(c: Cluster, a: usize) -> Work
     requires { a < most_servers }
     ensures { result ≡ work_of (begun_of c) (hearing c a) }
 {
-    let b = best_by(c, By::Term);
+    let b = newest_server(c);
     let w = Work {
         cluster: c,
         plan: no_frames(Answer::Done),
     };
-    if holds_own(c, By::Term, a, b) {
+    if not_older(c, a, b) {
         return w;
     }
     tried(w, Step::Hears(a as u8, b as u8))
@@ -321,10 +248,11 @@ fn closed(w: Work, a: usize, m: usize) -> Work
     requires { (m ≤ most_servers) × (a < most_servers) }
     ensures { result ≡ closed_of w a m }
 {
-    let v = each_turn(w, Line::Copies, a, m);
-    let u = each_turn(v, Line::Takes, a, m);
-    let t = tried(u, Step::Advances(a as u8));
-    each_turn(t, Line::Hears, a, m)
+    let lead = a as u8;
+    let v = each_turn(w, m, |v, k| copied(v, other_of(a, k), lead));
+    let u = each_turn(v, m, |v, _| tried(v, Step::TakesReport(lead)));
+    let t = tried(u, Step::Advances(lead));
+    each_turn(t, m, |v, k| tried(v, Step::Hears(other_of(a, k), lead)))
 }
 
 // The plan's frames, or why there are none.
@@ -340,14 +268,13 @@ pub fn plan(c: Cluster, key: u8, value: u16) -> Planned
     if value < 1 {
         return no_frames(Answer::Refused(Refusal::OutOfRange));
     }
-    if !all_need(c, Need::Room) {
+    if !all_room(c) {
         return no_frames(Answer::Refused(Refusal::LogFull));
     }
-    if !all_need(c, Need::Low) {
+    if !all_low(c) {
         return no_frames(Answer::Refused(Refusal::AtLimit));
     }
-    let a = best_by(c, By::Log);
+    let a = chosen(c);
     let w = closed(opened(c, a, key, value), a, others_of(c));
-    let p = w.plan;
-    p
+    w.plan
 }

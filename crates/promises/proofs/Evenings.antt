@@ -10,8 +10,8 @@ use Rattle.cluster.specs.declared.Cluster.{Cluster}
 use Rattle.cluster.specs.Ranges.{Fits}
 use Rattle.steps.specs.declared.Outcome.{Outcome}
 use Rattle.rules.proofs.Keeps.{step_fits}
-use Rattle.frames.specs.declared.ReadStep.{ReadStep}
-use Rattle.frames.specs.declared.ReadStep.TheVariants as R
+use Rattle.steps.specs.declared.Step.{Step}
+use Rattle.std.proofs.Common.{Option, Some, None}
 use Rattle.frames.specs.Steps.{read_step}
 use Rattle.frames.proofs.Steps.{read_step_fits}
 use Rattle.lines.specs.Texts.{line_feed, on_line, lines}
@@ -59,9 +59,9 @@ line_fits : (c : Cluster) (l : List ℕ) → Fits c → Fits (answer_to c l).clu
 unfolding answer_to respond
 line_fits c l h = go (read_step l) refl
   where
-    go : (r : ReadStep) → read_step l ≡ r → Fits (respond c r).cluster
-    go (R.Step s) e = step_fits c s h (read_step_fits l s e)
-    go R.NoFrame e = h
+    go : (r : Option Step) → read_step l ≡ r → Fits (respond c r).cluster
+    go (Some s) e = step_fits c s h (read_step_fits l s e)
+    go None e = h
 
 lines_fit : (c : Cluster) (ls : List (List ℕ)) → Fits c → Fits (record_after c ls)
 lines_fit c [] h = h

@@ -23,8 +23,7 @@ use Rattle.wholes.specs.Starts.{start_rules}
 use Rattle.rules.specs.Rules.{row_of, rules_of, is_start, step_of}
 use Rattle.rules.specs.Statements.{Why, ill_formed, broken}
 use Rattle.rules.proofs.Outcomes.{StepDone, step_done, step_cases, refused_why}
-use Rattle.frames.specs.declared.ReadStep.{ReadStep}
-use Rattle.frames.specs.declared.ReadStep.TheVariants as R
+use Rattle.std.proofs.Common.{Option, Some, None}
 use Rattle.frames.specs.Steps.{read_step}
 use Rattle.frames.proofs.Steps.{read_step_fits}
 use Rattle.replay.specs.Texts.{respond, answer_to}
@@ -100,17 +99,17 @@ pub came_line : (c : Cluster) (l : List ℕ) → Came c → Came (answer_to c l)
 unfolding answer_to respond
 came_line c l m = go (read_step l) refl
   where
-    go : (r : ReadStep) → read_step l ≡ r → Came (respond c r).cluster
-    go (R.Step s) e = came_step c s (read_step_fits l s e) m
-    go R.NoFrame e = m
+    go : (r : Option Step) → read_step l ≡ r → Came (respond c r).cluster
+    go (Some s) e = came_step c s (read_step_fits l s e) m
+    go None e = m
 
 pub line_9 : (c : Cluster) (l : List ℕ) → Came c → (answer_to c l).answer ≢ Refused BelowCommitPoint
 unfolding answer_to respond
 line_9 c l m = go (read_step l)
   where
-    go : (r : ReadStep) → (respond c r).answer ≢ Refused BelowCommitPoint
-    go (R.Step s) = step_9 c s m
-    go R.NoFrame = λ e. let z : ◌≡◌ {A = ℕ} 0 1 = cc in omega arith
+    go : (r : Option Step) → (respond c r).answer ≢ Refused BelowCommitPoint
+    go (Some s) = step_9 c s m
+    go None = λ e. let z : ◌≡◌ {A = ℕ} 0 1 = cc in omega arith
 
 -- ---- before the first start
 
@@ -119,12 +118,12 @@ pub refused_line : (l : List ℕ) → ((n f : ℕ) → Begins zero_cluster l n f
 unfolding answer_to respond row_of
 refused_line l none = go (read_step l) refl
   where
-    done_begins : (s : Step) → read_step l ≡ R.Step s → StepDone zero_cluster s → ⊥
+    done_begins : (s : Step) → read_step l ≡ Some s → StepDone zero_cluster s → ⊥
     done_begins s e d =
         let m = start_of s (only_start s d.seen) in
-        let e' = e ∙ ap R.Step m.2 in
+        let e' = e ∙ ap Some m.2 in
         none m.0 m.1 (record { reads = e'; done = answer_of (answer_is zero_cluster l (Start m.0 m.1) e') ∙ ap (λ (o : Outcome). o.answer) (step_done zero_cluster (Start m.0 m.1) refl (subst (λ (t : Step). Clear (rules_of zero_cluster t)) m.2 d.clear)) })
 
-    go : (r : ReadStep) → read_step l ≡ r → (q : Refusal) × (respond zero_cluster r ≡ refusing_all zero_cluster q)
-    go (R.Step s) e = ⊎_elim (λ d. absurd (done_begins s e d)) (λ d. (d.refusal, d.is)) (step_cases zero_cluster s)
-    go R.NoFrame e = (NotAFrame, refl)
+    go : (r : Option Step) → read_step l ≡ r → (q : Refusal) × (respond zero_cluster r ≡ refusing_all zero_cluster q)
+    go (Some s) e = ⊎_elim (λ d. absurd (done_begins s e d)) (λ d. (d.refusal, d.is)) (step_cases zero_cluster s)
+    go None e = (NotAFrame, refl)

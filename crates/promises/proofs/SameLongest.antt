@@ -5,8 +5,8 @@ use Prim.Native.Nat.{ℕ}
 use Rattle.server_log.specs.declared.Entry.{Entry}
 use Rattle.cluster.specs.declared.Cluster.{Cluster}
 use Rattle.rules.specs.Rules.{step_of}
-use Rattle.frames.specs.declared.ReadStep.{ReadStep}
-use Rattle.frames.specs.declared.ReadStep.TheVariants as R
+use Rattle.steps.specs.declared.Step.{Step}
+use Rattle.std.proofs.Common.{Option, Some, None}
 use Rattle.frames.specs.Steps.{read_step}
 use Rattle.replay.specs.Texts.{respond, answer_to, records_on}
 use Rattle.histories.specs.Longest.{longer_of, longest_of}
@@ -28,7 +28,7 @@ same_longest es c (l ∷ ls) = go (read_step l) (λ d. same_longest (longer_of e
     run : List Event
     run = events_in (map a_line ls)
 
-    go : (r : ReadStep) → ((d : Cluster) → longest_of (longer_of es c) (records_on d ls) ≡ longest_of (longer_of es c) (records_of d run))
+    go : (r : Option Step) → ((d : Cluster) → longest_of (longer_of es c) (records_on d ls) ≡ longest_of (longer_of es c) (records_of d run))
         → longest_of (longer_of es c) (records_on (respond c r).cluster ls) ≡ longest_of es (records_of c (with_read r run))
-    go (R.Step s) more = more (step_of c s).cluster
-    go R.NoFrame more = more c ∙ counts_once es c run
+    go (Some s) more = more (step_of c s).cluster
+    go None more = more c ∙ counts_once es c run

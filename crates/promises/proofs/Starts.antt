@@ -15,7 +15,7 @@ use Rattle.wholes.specs.Starts.{start_rules, Opening}
 use Rattle.rules.specs.Rules.{row_of, is_start, step_of}
 use Rattle.rules.proofs.Keeps.{start_fresh}
 use Rattle.rules.proofs.Outcomes.{answered_done}
-use Rattle.frames.specs.declared.ReadStep.TheVariants as R
+use Rattle.std.proofs.Common.{Some}
 use Rattle.frames.specs.Steps.{read_step}
 use Rattle.frames.proofs.Steps.{read_step_fits}
 use Rattle.replay.specs.Texts.{respond, answer_to}
@@ -42,7 +42,7 @@ start_of (NewestRead a key n term) e = not_both false e refl
 start_of (TakesReport a) e = not_both false e refl
 
 -- a line is the step that it reads as
-pub answer_is : (c : Cluster) (line : List ℕ) (s : Step) → read_step line ≡ R.Step s → answer_to c line ≡ step_of c s
+pub answer_is : (c : Cluster) (line : List ℕ) (s : Step) → read_step line ≡ Some s → answer_to c line ≡ step_of c s
 unfolding answer_to respond
 answer_is c line s e = ap (respond c) e
 

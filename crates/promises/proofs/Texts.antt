@@ -15,8 +15,7 @@ use Rattle.steps.specs.Ranges.{FitsStep}
 use Rattle.wholes.specs.Starts.{start_done, Opening, fresh_of}
 use Rattle.rules.specs.Rules.{row_of, is_start, step_of}
 use Rattle.rules.proofs.Outcomes.{step_done}
-use Rattle.frames.specs.declared.ReadStep.{ReadStep}
-use Rattle.frames.specs.declared.ReadStep.TheVariants as R
+use Rattle.std.proofs.Common.{Option, Some, None}
 use Rattle.frames.specs.Layout.{bytes_of_frame}
 use Rattle.frames.specs.Steps.{read_step, write_step}
 use Rattle.frames.proofs.Steps.{read_step_fits, read_written_step}
@@ -38,14 +37,14 @@ is_run c [] h = record { onward = tt; same = refl }
 is_run c (a_night d ∷ gs) h = let r = is_run (happens c (overnight d)) gs h in record { onward = (tt, r.onward); same = r.same }
 is_run c (a_line l ∷ gs) h = let p = go (read_step l) refl (λ d. is_run d gs) h.1 in record { onward = p.0; same = p.1 }
   where
-    no_start : (s : Step) → read_step l ≡ R.Step s → is_start s ≡ true → (step_of c s).answer ≢ Done
+    no_start : (s : Step) → read_step l ≡ Some s → is_start s ≡ true → (step_of c s).answer ≢ Done
     no_start s e y d =
-        let m = start_of s y in h.0 m.0 m.1 (record { reads = e ∙ ap R.Step m.2; done = answer_of (answer_is c l s e) ∙ d })
+        let m = start_of s y in h.0 m.0 m.1 (record { reads = e ∙ ap Some m.2; done = answer_of (answer_is c l s e) ∙ d })
 
-    go : (r : ReadStep) → read_step l ≡ r → ((d : Cluster) → NoneBegins d gs → IsRun d gs) → NoneBegins (respond c r).cluster gs
+    go : (r : Option Step) → read_step l ≡ r → ((d : Cluster) → NoneBegins d gs → IsRun d gs) → NoneBegins (respond c r).cluster gs
         → Onward c (with_read r (events_in gs)) × (run_to c (with_read r (events_in gs)) ≡ taken_all (respond c r).cluster gs)
-    go (R.Step s) e more t = let r = more (step_of c s).cluster t in (((read_step_fits l s e, no_start s e), r.onward), r.same)
-    go R.NoFrame e more t = let r = more c t in (r.onward, r.same)
+    go (Some s) e more t = let r = more (step_of c s).cluster t in (((read_step_fits l s e, no_start s e), r.onward), r.same)
+    go None e more t = let r = more c t in (r.onward, r.same)
 
 -- lines alone are taken in as the program takes them in
 pub lines_are_given : (c : Cluster) (ls : List (List ℕ)) → taken_all c (map a_line ls) ≡ record_after c ls

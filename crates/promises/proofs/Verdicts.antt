@@ -13,8 +13,8 @@ use Rattle.cluster.specs.Servers.{zero_cluster, fresh_cluster}
 use Rattle.steps.specs.declared.Answer.{Answer}
 use Rattle.steps.specs.declared.Answer.TheVariants as A
 use Rattle.rules.specs.Rules.{is_start}
-use Rattle.frames.specs.declared.ReadStep.{ReadStep}
-use Rattle.frames.specs.declared.ReadStep.TheVariants as R
+use Rattle.steps.specs.declared.Step.{Step}
+use Rattle.std.proofs.Common.{Option, Some, None}
 use Rattle.frames.specs.Steps.{read_step}
 use Rattle.lines.specs.Texts.{lines}
 use Rattle.replay.specs.Texts.{answer_to, record_after, records_on}
@@ -56,11 +56,11 @@ start_begins c l n f b = rw (b.reads, b.done)
 begins_start : (c : Cluster) (l : List ℕ) → begins (read_step l) (answer_to c l).answer ≡ true → (n : ℕ) × (f : ℕ) × Begins c l n f
 begins_start c l h = go (read_step l) refl h
   where
-    go : (r : ReadStep) → read_step l ≡ r → begins r (answer_to c l).answer ≡ true → (n : ℕ) × (f : ℕ) × Begins c l n f
-    go (R.Step s) e h =
+    go : (r : Option Step) → read_step l ≡ r → begins r (answer_to c l).answer ≡ true → (n : ℕ) × (f : ℕ) × Begins c l n f
+    go (Some s) e h =
         let p = start_of s (and_left (is_start s) (is_done (answer_to c l).answer) h) in
-        (p.0, p.1, record { reads = e ∙ ap R.Step p.2; done = done_is (answer_to c l).answer (and_right (is_start s) _ h) })
-    go R.NoFrame e h = not_both false h refl
+        (p.0, p.1, record { reads = e ∙ ap Some p.2; done = done_is (answer_to c l).answer (and_right (is_start s) _ h) })
+    go None e h = not_both false h refl
 
 -- none of some lines does
 none_starts : (c : Cluster) (ls : List (List ℕ)) → NoneBegins c (map a_line ls) → NoneStarts c ls

@@ -15,11 +15,10 @@ use Rattle.steps.specs.declared.Answer.TheVariants.{Done, Elected, Reached, Entr
 use Rattle.steps.specs.declared.Outcome.{Outcome}
 use Rattle.steps.specs.declared.Refusal.{Refusal}
 use Rattle.steps.specs.declared.Refusal.TheVariants.{BelowCommitPoint}
-use Rattle.steps.specs.declared.Telling.TheVariants.{Numbers, Refusing}
-use Rattle.steps.specs.Answers.{telling_of}
+use Rattle.steps.specs.Answers.{telling_of, numbers}
 use Rattle.hex_text.specs.Digits.{radix, ten, char0, char_a, char_of}
 use Rattle.hex_text.specs.Lines.{hex_of}
-use Rattle.answers.specs.declared.ReadAnswer.TheVariants as A
+use Rattle.std.proofs.Common.{Some, Err}
 use Rattle.words.specs.Words.{framed}
 use Rattle.answers.specs.Answers.{answer_frame, bytes_of_telling, write_telling, write_answer, read_answer}
 use Rattle.answers.proofs.Answers.{read_written_telling, written_read_telling}
@@ -32,15 +31,15 @@ use Rattle.promises.proofs.Never9.{Came, came_line, line_9, refused_line}
 -- ---- one answer
 
 -- the first byte is 0 where something was done, and 9 for refusal 9
-written_numbers : (number term : ℕ) (time : Time) → write_telling (Refusing BelowCommitPoint) ≢ write_telling (Numbers number term time)
+written_numbers : (number term : ℕ) (time : Time) → write_telling (Err BelowCommitPoint) ≢ write_telling (numbers number term time)
 unfolding answer_frame char_of
 written_numbers number term time e = let z : ◌≡◌ {A = ℕ} 57 48 = ap (λ (l : List ℕ). get_or l 1 0) e in omega arith
 
-written_refusal : (r : Refusal) → write_telling (Refusing BelowCommitPoint) ≡ write_telling (Refusing r) → r ≡ BelowCommitPoint
+written_refusal : (r : Refusal) → write_telling (Err BelowCommitPoint) ≡ write_telling (Err r) → r ≡ BelowCommitPoint
 written_refusal r e =
-    let q : A.Telling (Refusing BelowCommitPoint) ≡ A.Telling (Refusing r) = sym (read_written_telling (Refusing BelowCommitPoint) tt) ∙ ap read_answer e ∙ read_written_telling (Refusing r) tt in cc
+    let q : Some (Err BelowCommitPoint) ≡ Some (Err r) = sym (read_written_telling (Err BelowCommitPoint) tt) ∙ ap read_answer e ∙ read_written_telling (Err r) tt in cc
 
-written_9 : (a : Answer) → write_telling (Refusing BelowCommitPoint) ≡ write_answer a → a ≡ Refused BelowCommitPoint
+written_9 : (a : Answer) → write_telling (Err BelowCommitPoint) ≡ write_answer a → a ≡ Refused BelowCommitPoint
 written_9 Done e = absurd (written_numbers _ _ _ e)
 written_9 (Elected term) e = absurd (written_numbers _ _ _ e)
 written_9 (Reached n) e = absurd (written_numbers _ _ _ e)
@@ -68,14 +67,14 @@ answer_line_lem : (a : Answer) (rest : List ℕ) → lines (line_of a ++ rest) �
 unfolding line_of
 answer_line_lem a rest = ap lines (append_assoc (write_answer a) (line_feed ∷ []) rest) ∙ hex_line (bytes_of_telling (telling_of a)) rest
 
-no_line : read_answer [] ≢ A.Telling (Refusing BelowCommitPoint)
+no_line : read_answer [] ≢ Some (Err BelowCommitPoint)
 unfolding framed
 no_line e = let z : ◌≡◌ {A = ℕ} 0 1 = cc in omega arith
 
-lines_written : (c : Cluster) → Came c → (ls : List (List ℕ)) (i : ℕ) → read_answer (get_or (lines (answers_to c ls)) i []) ≢ A.Telling (Refusing BelowCommitPoint)
+lines_written : (c : Cluster) → Came c → (ls : List (List ℕ)) (i : ℕ) → read_answer (get_or (lines (answers_to c ls)) i []) ≢ Some (Err BelowCommitPoint)
 lines_written c m [] i = no_line
 lines_written c m (l ∷ ls) zero =
-    rw (answer_line_lem (answer_to c l).answer (answers_to (answer_to c l).cluster ls)) (λ e. line_9 c l m (written_9 _ (written_read_telling _ (Refusing BelowCommitPoint) e)))
+    rw (answer_line_lem (answer_to c l).answer (answers_to (answer_to c l).cluster ls)) (λ e. line_9 c l m (written_9 _ (written_read_telling _ (Err BelowCommitPoint) e)))
 lines_written c m (l ∷ ls) (suc i) =
     rw (answer_line_lem (answer_to c l).answer (answers_to (answer_to c l).cluster ls)) (lines_written (answer_to c l).cluster (came_line c l m) ls i)
 

@@ -1,7 +1,7 @@
 -- One bridge between the program's texts and runs, for every promise: what a program is given from a start line on is a run from a fresh
 -- cluster, and every run is some text's. A promise about texts is then a promise about these runs.
 -- Assumes nothing.
-use Rattle.std.specs.Prelude.{◌≡◌, true, List, [], ◌∷◌, ◌++◌, ℕ}
+use Rattle.std.specs.Prelude.{◌≡◌, true, List, [], ◌∷◌, ◌++◌, ℕ, Option, Some, None}
 use Rattle.cluster.specs.declared.Cluster.{Cluster}
 use Rattle.cluster.specs.Servers.{zero_cluster, fresh_cluster}
 use Rattle.cluster.specs.WellFormed.{size_ok}
@@ -9,8 +9,7 @@ use Rattle.steps.specs.Ranges.{FitsStep}
 use Rattle.wholes.specs.Starts.{Opening, fresh_of}
 use Rattle.steps.specs.declared.Step.TheVariants.{Start}
 use Rattle.steps.specs.declared.Answer.TheVariants.{Done}
-use Rattle.frames.specs.declared.ReadStep.{ReadStep}
-use Rattle.frames.specs.declared.ReadStep.TheVariants as R
+use Rattle.steps.specs.declared.Step.{Step}
 use Rattle.frames.specs.Steps.{read_step, write_step}
 use Rattle.lines.specs.Texts.{lines}
 use Rattle.replay.specs.Texts.{answer_to, record_after}
@@ -35,7 +34,7 @@ taken_all c (g ∷ gs) = taken_all (taken_one c g) gs
 -- a start line that begins a new cluster of n servers with the followers f, given to the record c: it reads as that start, and it is answered
 -- with done
 pub record Begins (c : Cluster) (start : List ℕ) (n f : ℕ) : Type 0 where
-  pub reads : read_step start ≡ R.Step (Start n f)
+  pub reads : read_step start ≡ Some (Start n f)
   pub done : (answer_to c start).answer ≡ Done
 
 -- nothing of what is given from c on begins a new cluster; bad lines, refused lines and all else are among it
@@ -45,9 +44,9 @@ NoneBegins c (a_line l ∷ gs) = ((n f : ℕ) → Begins c l n f → ⊥) × Non
 NoneBegins c (a_night d ∷ gs) = NoneBegins (happens c (overnight d)) gs
 
 -- the events of it: a line is the step that it reads as, and none where it is no frame
-abbrev pub with_read : ReadStep → List Event → List Event
-with_read (R.Step s) es = comes s ∷ es
-with_read R.NoFrame es = es
+abbrev pub with_read : Option Step → List Event → List Event
+with_read (Some s) es = comes s ∷ es
+with_read None es = es
 
 abbrev pub events_in : List Given → List Event
 events_in [] = []

@@ -1,15 +1,13 @@
 -- What the program writes for a text: no refusal 9, refusals alone before the first start, and over a saving what it would have written without.
 -- Assumes nothing.
-use Rattle.std.specs.Prelude.{◌≡◌, ◌≢◌, ◌⊎◌, Bool, true, List, [], ◌∷◌, ◌++◌, map, ℕ, eqb, get_or}
+use Rattle.std.specs.Prelude.{◌≡◌, ◌≢◌, ◌⊎◌, Bool, true, List, [], ◌∷◌, ◌++◌, map, ℕ, eqb, get_or, Some, Err}
 use Rattle.cluster.specs.declared.Cluster.{Cluster}
 use Rattle.cluster.specs.Ranges.{Fits}
 use Rattle.cluster.specs.Servers.{zero_cluster}
 use Rattle.cluster.specs.WellFormed.{well_formed}
 use Rattle.steps.specs.declared.Answer.TheVariants.{Refused}
-use Rattle.steps.specs.declared.Telling.TheVariants.{Refusing}
 use Rattle.steps.specs.declared.Refusal.{Refusal}
 use Rattle.steps.specs.declared.Refusal.TheVariants.{BelowCommitPoint}
-use Rattle.answers.specs.declared.ReadAnswer.TheVariants as A
 use Rattle.answers.specs.Answers.{read_answer}
 use Rattle.lines.specs.Texts.{line_feed, lines}
 use Rattle.replay.specs.Texts.{answer_to, record_after, answers, leaves}
@@ -22,7 +20,7 @@ use Rattle.promises.specs.Texts.{a_line, NoneBegins}
 abbrev pub Never9Written : Type 0
 Never9Written =
     (c : Cluster) → (c ≡ zero_cluster) ⊎ FromFresh c → (text : List ℕ) (i : ℕ)
-    → read_answer (get_or (lines (answers c text)) i []) ≢ A.Telling (Refusing BelowCommitPoint)
+    → read_answer (get_or (lines (answers c text)) i []) ≢ Some (Err BelowCommitPoint)
 
 -- a new program refuses every line until one begins a cluster
 abbrev pub RefusedBeforeAStart : Type 0

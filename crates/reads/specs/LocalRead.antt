@@ -7,12 +7,11 @@ use Rattle.server_log.specs.Logs.{live}
 use Rattle.server_log.specs.Order.{highest_key}
 use Rattle.server_log.specs.Rows.{value_for}
 use Rattle.cluster.specs.declared.Server.{Server}
-use Rattle.steps.specs.declared.Sends.TheVariants.{Nothing}
 use Rattle.steps.specs.declared.Stepped.{Stepped}
 use Rattle.steps.specs.declared.Answer.TheVariants.{Value}
 use Rattle.steps.specs.declared.Refusal.TheVariants.{OutOfRange, NotYet}
 use Rattle.steps.specs.Refusals.{Rules, decided}
-use Rattle.steps.specs.Answers.{refusing}
+use Rattle.steps.specs.Answers.{refusing, answering}
 
 -- a read of a key at a time that the server has reached: the reached time is not before the time asked
 abbrev pub read_rules : ℕ → Time → Time → Rules
@@ -23,7 +22,7 @@ abbrev pub local_rules : Server → ℕ → Time → Rules
 local_rules s key asked = read_rules key (applied_time (live s.log)) asked
 
 abbrev pub local_done : Server → ℕ → Stepped
-local_done s key = record { server = s; answer = Value (value_for s.rows.whole key) (applied_time (live s.log)); sends = Nothing }
+local_done s key = answering s (Value (value_for s.rows.whole key) (applied_time (live s.log)))
 
 abbrev pub local_read_of : Server → ℕ → Time → Stepped
 local_read_of s key asked = decided (refusing s) (local_done s key) (local_rules s key asked)

@@ -6,11 +6,10 @@ use Rattle.server_log.specs.Entries.{entry_at}
 use Rattle.server_log.specs.Logs.{live}
 use Rattle.server_log.specs.Rows.{value_for}
 use Rattle.cluster.specs.declared.Server.{Server}
-use Rattle.steps.specs.declared.Sends.TheVariants.{Nothing}
 use Rattle.steps.specs.declared.Stepped.{Stepped}
 use Rattle.steps.specs.declared.Answer.TheVariants.{Value}
 use Rattle.steps.specs.Refusals.{Rules, decided}
-use Rattle.steps.specs.Answers.{refusing}
+use Rattle.steps.specs.Answers.{refusing, answering}
 use Rattle.reads.specs.LocalRead.{read_rules}
 
 -- the time of the entry at the commit point, (0,0) if that is 0
@@ -26,7 +25,7 @@ abbrev pub majority_rules : Server → ℕ → Time → Rules
 majority_rules s key asked = read_rules key (commit_time s) asked
 
 abbrev pub majority_done : Server → ℕ → Stepped
-majority_done s key = record { server = s; answer = Value (value_for s.rows.committed key) (commit_time s); sends = Nothing }
+majority_done s key = answering s (Value (value_for s.rows.committed key) (commit_time s))
 
 abbrev pub majority_read_of : Server → ℕ → Time → Stepped
 majority_read_of s key asked = decided (refusing s) (majority_done s key) (majority_rules s key asked)

@@ -4,12 +4,11 @@ use Rattle.server_log.specs.Entries.{entry_at, has_entry}
 use Rattle.server_log.specs.Logs.{may_ask, live, latest_in}
 use Rattle.server_log.specs.Order.{highest_key}
 use Rattle.cluster.specs.declared.Server.{Server}
-use Rattle.steps.specs.declared.Sends.TheVariants.{Nothing}
 use Rattle.steps.specs.declared.Stepped.{Stepped}
 use Rattle.steps.specs.declared.Answer.TheVariants.{Value}
 use Rattle.steps.specs.declared.Refusal.TheVariants.{OutOfRange, WrongRole, NoSuchEntry, NotYet}
 use Rattle.steps.specs.Refusals.{Rules, decided}
-use Rattle.steps.specs.Answers.{refusing}
+use Rattle.steps.specs.Answers.{refusing, answering}
 
 -- the server is primary in the term asked, has an entry of that term at position n, and its commit point reaches that far
 abbrev pub newest_rules : Server → ℕ → ℕ → ℕ → Rules
@@ -25,7 +24,7 @@ newest_rules s key n term =
 -- the value of the last entry for the key in the first n entries, with the time of the nth
 abbrev pub newest_done : Server → ℕ → ℕ → Stepped
 newest_done s key n =
-    record { server = s; answer = Value (latest_in s.log key n) (entry_at (live s.log) n).time; sends = Nothing }
+    answering s (Value (latest_in s.log key n) (entry_at (live s.log) n).time)
 
 abbrev pub newest_read_of : Server → ℕ → ℕ → ℕ → Stepped
 newest_read_of s key n term = decided (refusing s) (newest_done s key n) (newest_rules s key n term)

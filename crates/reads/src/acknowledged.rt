@@ -3,7 +3,7 @@ ghost use Rattle.std.specs.Prelude.{◌≡◌};
 ghost use Rattle.reads.specs.Acknowledged.{acknowledged_of};
 
 use cluster::Server;
-use steps::{Answer, Refusal, Sends, Stepped};
+use steps::{Answer, Refusal, Stepped};
 
 // Counts above 0 are retired, whatever the server has.
 pub fn acknowledged(size: usize, s: Server, k: usize, n: usize, term: u16) -> Stepped
@@ -18,18 +18,12 @@ pub fn acknowledged(size: usize, s: Server, k: usize, n: usize, term: u16) -> St
     if k != 0 {
         return steps::refuse(s, Refusal::Retired);
     }
-    let g = s.log;
-    if !server_log::has_entry(g, n, term) {
+    if !server_log::has_entry(s.log, n, term) {
         return steps::refuse(s, Refusal::NoSuchEntry);
     }
     if s.head.commit < n {
         return steps::refuse(s, Refusal::NotYet);
     }
-    let e = server_log::entry_at(g, n);
-    let time = e.time;
-    Stepped {
-        server: s,
-        answer: Answer::Entry(n, e.term, time),
-        sends: Sends::Nothing,
-    }
+    let e = server_log::entry_at(s.log, n);
+    steps::answered(s, Answer::Entry(n, e.term, e.time))
 }

@@ -3,7 +3,7 @@ ghost use Rattle.std.specs.Prelude.{◌≡◌};
 ghost use Rattle.reads.specs.NewestRead.{newest_read_of};
 
 use cluster::Server;
-use steps::{Answer, Refusal, Sends, Stepped};
+use steps::{Answer, Refusal, Stepped};
 
 pub fn newest_read(s: Server, key: u8, n: usize, term: u16) -> Stepped
     ensures { result ≡ newest_read_of s key n term }
@@ -20,19 +20,12 @@ pub fn newest_read(s: Server, key: u8, n: usize, term: u16) -> Stepped
     if s.head.term != term {
         return steps::refuse(s, Refusal::WrongRole);
     }
-    let g = s.log;
-    if !server_log::has_entry(g, n, term) {
+    if !server_log::has_entry(s.log, n, term) {
         return steps::refuse(s, Refusal::NoSuchEntry);
     }
     if s.head.commit < n {
         return steps::refuse(s, Refusal::NotYet);
     }
-    Stepped {
-        server: s,
-        answer: Answer::Value(
-            server_log::latest_value(g, key, n),
-            server_log::time_at(g, n),
-        ),
-        sends: Sends::Nothing,
-    }
+    let value = server_log::latest_value(s.log, key, n);
+    steps::answered(s, Answer::Value(value, server_log::time_at(s.log, n)))
 }

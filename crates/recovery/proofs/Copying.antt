@@ -34,7 +34,7 @@ use Rattle.steps.specs.Answers.{is_refused}
 use Rattle.steps.specs.declared.Step.TheVariants.{Pulls, RollsBack}
 use Rattle.steps.specs.Reasons.{Clear, Broken}
 use Rattle.steps.specs.declared.Refusal.TheVariants.{BelowCommitPoint}
-use Rattle.steps.proofs.Numbers.{number_kept}
+use Rattle.steps.proofs.Positions.{number_kept}
 use Rattle.pairs.specs.Reports.{report_of, sent_of}
 use Rattle.pairs.specs.Pulls.{took_of}
 use Rattle.pairs.specs.RollsBack.{common}

@@ -19,9 +19,8 @@ use Rattle.cluster.specs.Sets.{votes, voters}
 use Rattle.cluster.specs.WellFormed.{well_formed}
 use Rattle.cluster.proofs.Changed.{replaced_here, replaced_others}
 use Rattle.cluster.proofs.Good.{Good, size_good, well_formed_lem}
-use Rattle.steps.specs.Answers.{is_refused}
+use Rattle.steps.specs.Answers.{is_refused, report_to}
 use Rattle.steps.specs.declared.Outcome.{Outcome}
-use Rattle.steps.specs.declared.Sends.TheVariants.{To}
 use Rattle.steps.specs.declared.Step.{Step}
 use Rattle.steps.specs.Ranges.{FitsStep}
 use Rattle.steps.specs.Reasons.{Clear}
@@ -93,7 +92,7 @@ put_each c a s l P x y i =
 -- server a replaced, and a report sent to another server b
 module _ (c : Cluster) (a b : ℕ) (s : Server) (r : Report) (ne : a ≢ b) (pa : a < length c.servers) (pb : b < length c.servers) where
   abbrev sent : Cluster
-  sent = delivered (with_server c a s) (To b r)
+  sent = delivered (with_server c a s) (report_to b r)
 
   pub sent_here : server_at sent a ≡ s
   unfolding delivered

@@ -1,4 +1,5 @@
 -- The chosen server takes the reports, in the order in which they were sent, and notes each. Assumes nothing.
+use Rattle.std.proofs.Common.{None}
 use mathlib.Core.Path.{◌≡◌, refl, ap, sym, ◌∙◌, subst}
 use mathlib.Core.Bool.{true, false}
 use mathlib.Core.List.{List}
@@ -24,7 +25,6 @@ use Rattle.cluster.specs.declared.Cluster.{Cluster}
 use Rattle.cluster.specs.Servers.{server_at, with_mail, with_server}
 use Rattle.cluster.proofs.Changed.{replaced_here}
 use Rattle.steps.specs.declared.Step.TheVariants.{TakesReport}
-use Rattle.steps.specs.declared.Sends.TheVariants.{Nothing}
 use Rattle.steps.specs.Reasons.{Clear}
 use Rattle.singles.specs.TakesReport.{oldest_of, forwards}
 use Rattle.rules.specs.Rules.{delivered, row_of, rules_of, done_of}
@@ -105,7 +105,7 @@ module _ {m f : ℕ} {a t : ℕ} {es : List Entry} (task : Task m a t es) where
     clear = (in_count h.leads.stands a task.below, (le-leb 1 s.mail.queue.len (omega (arith, h.len)), tt))
 
     -- a primary keeps it
-    kept : forwards s ≡ Nothing
+    kept : forwards s ≡ None
     unfolding forwards
     kept = rw h.leads.primary
 

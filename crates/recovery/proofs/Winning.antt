@@ -12,7 +12,7 @@ use Rattle.base.proofs.Bools.{and_both, or_left, or_right, not_both}
 use Rattle.base.proofs.Every.{every_all}
 use Rattle.base.proofs.Facts.{lt_or_le}
 use Rattle.clock.specs.declared.Time.{Time}
-use Rattle.clock.specs.declared.Ticked.TheVariants.{To}
+use Rattle.std.specs.declared.option.Option.TheVariants.{Some}
 use Rattle.clock.specs.Times.{limit, zero_time, tick_of}
 use Rattle.clock.proofs.Order.{later_zero}
 use Rattle.server_log.specs.declared.Entry.{Entry}
@@ -165,7 +165,7 @@ may_tick : (w : ℕ) (t : Time) → t.l < limit → ticks (tick_of w t) ≡ true
 unfolding tick_of
 may_tick w t h = rw (lt-ltb t.l limit h) (go (leb w t.p))
   where
-    go : (b : Bool) → ticks (cond b (To (record { p = t.p; l = t.l + 1 })) (To (record { p = w; l = 0 }))) ≡ true
+    go : (b : Bool) → ticks (cond b (Some (record { p = t.p; l = t.l + 1 })) (Some (record { p = w; l = 0 }))) ≡ true
     go true = refl
     go false = refl
 

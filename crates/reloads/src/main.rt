@@ -5,9 +5,8 @@
 #![tactic(auto)]
 
 use cluster::Cluster;
-use saved::Saved;
 use std::process::ExitCode;
-use steps::{Answer, Step};
+use steps::Answer;
 use streams::Streams;
 
 // A line, so that each answer stands by itself.
@@ -16,158 +15,65 @@ fn say(streams: &Streams, words: &[u8]) {
     streams.write(b"\n");
 }
 
-// Whether the first n bytes written are the text; never where there are fewer.
-fn wrote_same(out: &[u8], n: usize, text: &[u8]) -> bool {
-    if out.len() < n {
-        return false;
-    }
-    loads::same_text(&out[..n], text)
-}
-
 // The edition that a text names, 0 where it is too short for that.
 fn edition_of(text: &[u8]) -> u8 {
     let mut b = [0u8; 2];
-    if 4 <= text.len() {
-        hex_text::unhex(&text[0..4], &mut b);
+    if let Some(first) = text.get(..4) {
+        hex_text::unhex(first, &mut b);
     }
     b[1]
 }
 
 // Whether the record saves to the text in the text's edition, because that tells it from every other.
+// Kept: `loads` asks the same inside, and what it asks is what these cases try.
 fn saves_to(c: Cluster, text: &[u8]) -> bool {
     let mut out = [0; saved::LONGEST];
-    let s = saved::save_as(edition_of(text), c, &mut out);
-    let Saved::Text(n) = s else {
-        return false;
-    };
-    wrote_same(&out, n, text)
+    let written = saved::save_as(edition_of(text), c, &mut out);
+    written.is_ok_and(|n| out.get(..n).is_some_and(|written| written == text))
 }
 
-// Every text is loaded into this record, so that a refusal can be seen to give it back: two servers after a start.
-fn given() -> Cluster {
-    let o = rules::step(cluster::zero_cluster(), Step::Start(2, 0));
-    o.cluster
-}
-
-fn is_given(c: Cluster) -> bool {
-    saves_to(
-        c,
-        b"000202\n0100000000000000000000000100000000\n0100000000000000000000000100000000\n",
-    )
-}
-
+// Every text is loaded into a record, two servers after a start, so that a refusal can be seen to give it back.
 fn tried(streams: &Streams, text: &[u8]) {
-    let o = loads::load(given(), text);
-    let c = o.cluster;
-    let a = o.answer;
-    let chars = answers::write_answer(a);
-    say(streams, &chars);
-    let Answer::Done = a else {
-        if is_given(c) {
-            say(streams, b"kept");
-        } else {
-            say(streams, b"lost");
-        }
+    let given = cluster::fresh_cluster(2, 0);
+    let o = loads::load(given, text);
+    say(streams, &answers::write_answer(o.answer));
+    let came: &[u8] = match o.answer {
+        Answer::Done if saves_to(o.cluster, text) => b"same",
+        Answer::Done => b"other",
+        _ if o.cluster == given => b"kept",
+        _ => b"lost",
+    };
+    say(streams, came);
+}
+
+// A line that begins with # or =, and all up to the next one. That line is written first, so that the answer stands under the name. A case's text begins
+// after its name; it may be empty, as a saved file may. One without its last line feed can't stand before another line, so its name asks for it.
+fn taken(streams: &Streams, part: &[u8]) {
+    let mut halves = part.splitn(2, |b| *b == b'\n');
+    let (Some(name), Some(text)) = (halves.next(), halves.next()) else {
         return;
     };
-    if saves_to(c, text) {
-        say(streams, b"same");
-    } else {
-        say(streams, b"other");
+    say(streams, name);
+    match (name, text) {
+        ([b'=', b'-', ..], [cut @ .., b'\n']) => tried(streams, cut),
+        ([b'=', ..], _) => tried(streams, text),
+        _ => {}
     }
 }
 
-// Where the first line ends, as a case's name ends there.
-fn first_feed(part: &[u8]) -> usize {
-    let mut i: usize = 0;
-    while i < part.len() {
-        if part[i] == b'\n' {
-            return i;
-        }
-        i += 1;
-    }
-    i
-}
-
-// Where a case's text ends that begins at `past`: one without its last line feed can't stand before another line, so its name asks for it.
-fn text_end(part: &[u8], past: usize) -> usize {
-    let end = part.len();
-    if end <= past {
-        return end;
-    }
-    if end < 2 {
-        return end;
-    }
-    if part[1] == b'-' && part[end - 1] == b'\n' {
-        return end - 1;
-    }
-    end
-}
-
-// A case's text begins after its name; it may be empty, as a saved file may.
-fn tried_after(streams: &Streams, part: &[u8], past: usize) {
-    let end = text_end(part, past);
-    if end < past {
-        return;
-    }
-    if part.len() < end {
-        return;
-    }
-    tried(streams, &part[past..end]);
-}
-
-// A line that begins with # or =, and all up to the next one. That line is written first, so that the answer stands under the name.
-fn taken(streams: &Streams, part: &[u8]) {
-    let n = first_feed(part);
-    if part.len() <= n {
-        return;
-    }
-    say(streams, &part[..n]);
-    if part[0] == b'=' {
-        tried_after(streams, part, n + 1);
-    }
-}
-
-// Whether a line begins at place i that ends the text before it: no frame begins with these.
-fn begins(text: &[u8], i: usize) -> bool {
-    if text.len() <= i {
-        return false;
-    }
-    if text[i] != b'=' && text[i] != b'#' {
-        return false;
-    }
-    if i == 0 {
-        return true;
-    }
-    text[i - 1] == b'\n'
-}
-
-// The cases one after another; each is whole where the next begins.
-fn take_cases(streams: &Streams, text: &[u8]) {
-    let mut start: usize = 0;
-    let mut i: usize = 0;
-    while i < text.len() {
-        if begins(text, i) {
-            taken(streams, &text[start..i]);
-            start = i;
-        }
-        i += 1;
-    }
-    taken(streams, &text[start..i]);
-}
-
-// A text that fills the buffer may have been cut, and is refused.
+// A text that fills the buffer may have been cut, and is refused. The cases one after another: no line of a saved text begins with # or =.
 fn run(streams: &Streams) {
     let mut text = io::large_buffer();
-    let mut input = streams.input();
-    let n = input.read_full(&mut text);
-    if text.len() <= n {
+    let Some(text) = streams.read_all(&mut text) else {
         say(streams, b"? too long");
         return;
+    };
+    for part in text.chunk_by(|before, b| *before != b'\n' || !matches!(b, b'=' | b'#')) {
+        taken(streams, part);
     }
-    take_cases(streams, &text[..n]);
 }
 
+// Kept: as in the other programs, three calls that a function would take as a closure.
 fn main(rt: HostRuntime) -> ExitCode {
     let streams = Streams::new(rt.stdin(), rt.stdout(), rt.stderr());
     run(&streams);

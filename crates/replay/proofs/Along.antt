@@ -12,12 +12,11 @@ use Rattle.replay.specs.declared.Session.{Session}
 use Rattle.replay.specs.declared.Fed.{Fed}
 use Rattle.cluster.specs.declared.Cluster.{Cluster}
 use Rattle.steps.specs.declared.Outcome.{Outcome}
-use Rattle.lines.specs.declared.Reader.{Reader}
 use Rattle.lines.specs.Texts.{line_feed, placed}
 use Rattle.replay.specs.Texts.{answer_to, line_of}
 use Rattle.lines.proofs.Placed.{placed_none, placed_length, placed_more}
 use Rattle.replay.proofs.Whole.{runs_append, says_append, line_long}
-use Rattle.lines.specs.Readers.{line_held, reader_after}
+use Rattle.lines.specs.Readers.{Reader, line_held, reader_after}
 use Rattle.lines.specs.Folds.{byte_after}
 use Rattle.replay.specs.Pieces.{answer_line, after, said, runs, says, taking, fed_of, fed_out, begun}
 

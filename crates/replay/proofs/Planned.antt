@@ -1,4 +1,5 @@
 -- A plan that is carried out gives what the line gives, and names only servers of the record. Assumes nothing.
+use Rattle.std.proofs.Common.{None}
 use mathlib.Core.Path.{◌≡◌, refl, ap, sym, ◌∙◌}
 use mathlib.Core.List.{[], ◌∷◌}
 use mathlib.Core.Bool.{Bool, true, false, cond, not, ◌||◌}
@@ -9,11 +10,11 @@ use Rattle.cluster.specs.declared.Cluster.{Cluster}
 use Rattle.cluster.specs.declared.Server.{Server as ServerOf}
 use Rattle.cluster.specs.Servers.{server_at, server_count, with_server}
 use Rattle.cluster.specs.WellFormed.{well_formed}
+use Rattle.steps.specs.declared.Refusal.{Refusal}
 use Rattle.steps.specs.declared.Refusal.TheVariants.{IllFormed, OutOfRange}
 use Rattle.steps.specs.declared.Step.{Step}
 use Rattle.steps.specs.declared.Step.TheVariants as S
 use Rattle.steps.specs.declared.Outcome.{Outcome}
-use Rattle.steps.specs.declared.Sends.TheVariants.{Nothing}
 use Rattle.steps.specs.declared.Stepped.{Stepped}
 use Rattle.steps.specs.Refusals.{Rules, decided}
 use Rattle.steps.specs.Answers.{refusing, refusing_all}
@@ -25,46 +26,45 @@ use Rattle.reads.specs.Acknowledged.{acknowledge_rules}
 use Rattle.reads.specs.LocalRead.{local_rules}
 use Rattle.reads.specs.MajorityRead.{majority_rules}
 use Rattle.reads.specs.NewestRead.{newest_rules}
-use Rattle.frames.specs.declared.ReadStep.{ReadStep}
-use Rattle.frames.specs.declared.ReadStep.TheVariants as R
+use Rattle.std.proofs.Common.{Option, Some, None, Result, Ok, Err}
 use Rattle.rules.specs.Rules.{delivered, is_start, core_of, step_of, put_back}
 use Rattle.rules.specs.One.{one_of, single_of, pair_of}
 use Rattle.rules.proofs.Parts.{core_down, core_hears, core_writes, core_clock, core_restarts, core_local, core_majority, core_acknowledged, core_nothing, core_newest}
 use Rattle.replay.specs.declared.Plan.{Plan}
-use Rattle.replay.specs.declared.Plan.TheVariants.{Refuse, Server, Record}
+use Rattle.replay.specs.declared.Plan.TheVariants.{Server, Record}
 use Rattle.replay.specs.Texts.{respond}
 use Rattle.replay.specs.Plans.{plan_alone, plan_apart, place_of, plan_of, carried_out}
 
 -- ---- what is carried out
 
 -- what is decided between a refusal and what sends nothing sends nothing
-decided_sends : (s : ServerOf) (d : Stepped) (rs : Rules) → d.sends ≡ Nothing → (decided (refusing s) d rs).sends ≡ Nothing
+decided_sends : (s : ServerOf) (d : Stepped) (rs : Rules) → d.sends ≡ None → (decided (refusing s) d rs).sends ≡ None
 decided_sends s d [] e = e
 decided_sends s d (r ∷ rs) e = go r.0 (decided_sends s d rs e)
   where
-    go : (b : Bool) → (decided (refusing s) d rs).sends ≡ Nothing → (cond b (decided (refusing s) d rs) (refusing s r.1)).sends ≡ Nothing
+    go : (b : Bool) → (decided (refusing s) d rs).sends ≡ None → (cond b (decided (refusing s) d rs) (refusing s r.1)).sends ≡ None
     go true x = x
     go false x = refl
 
 -- a step that sends nothing leaves the others as they are
-put_back_is : (c : Cluster) (a : ℕ) (o : Stepped) → o.sends ≡ Nothing → ◌≡◌ {A = Outcome} (record { cluster = with_server c a o.server; answer = o.answer }) (put_back c a o)
+put_back_is : (c : Cluster) (a : ℕ) (o : Stepped) → o.sends ≡ None → ◌≡◌ {A = Outcome} (record { cluster = with_server c a o.server; answer = o.answer }) (put_back c a o)
 unfolding delivered
 put_back_is c a o e i = record { cluster = sym (ap (delivered (with_server c a o.server)) e) i; answer = o.answer }
 
-alone_does : (c : Cluster) (a : ℕ) (s : Step) → (one_of (server_count c) (server_at c a) (server_at c a) s).sends ≡ Nothing → carried_out c (plan_alone (server_count c) a s) ≡ single_of c a s
+alone_does : (c : Cluster) (a : ℕ) (s : Step) → (one_of (server_count c) (server_at c a) (server_at c a) s).sends ≡ None → carried_out c (plan_alone (server_count c) a s) ≡ single_of c a s
 unfolding carried_out plan_alone single_of
 alone_does c a s e = go (ltb a (server_count c))
   where
-    go : (t : Bool) → carried_out c (cond t (Server a a s) (Refuse OutOfRange)) ≡ cond t (put_back c a (one_of (server_count c) (server_at c a) (server_at c a) s)) (refusing_all c OutOfRange)
+    go : (t : Bool) → carried_out c (cond t (Ok (Server a a s)) (Err OutOfRange)) ≡ cond t (put_back c a (one_of (server_count c) (server_at c a) (server_at c a) s)) (refusing_all c OutOfRange)
     go true = put_back_is c a (one_of (server_count c) (server_at c a) (server_at c a) s) e
     go false = refl
 
-apart_does : (c : Cluster) (a b : ℕ) (s : Step) → (one_of (server_count c) (server_at c a) (server_at c b) s).sends ≡ Nothing → carried_out c (plan_apart (server_count c) a b s) ≡ pair_of c a b s
+apart_does : (c : Cluster) (a b : ℕ) (s : Step) → (one_of (server_count c) (server_at c a) (server_at c b) s).sends ≡ None → carried_out c (plan_apart (server_count c) a b s) ≡ pair_of c a b s
 unfolding carried_out plan_apart pair_of
 apart_does c a b s e = go (ltb a (server_count c)) (ltb b (server_count c)) (eqb a b)
   where
     go : (t u v : Bool)
-        → carried_out c (cond t (cond u (cond v (Refuse OutOfRange) (Server a b s)) (Refuse OutOfRange)) (Refuse OutOfRange))
+        → carried_out c (cond t (cond u (cond v (Err OutOfRange) (Ok (Server a b s))) (Err OutOfRange)) (Err OutOfRange))
         ≡ cond t (cond u (cond (not v) (put_back c a (one_of (server_count c) (server_at c a) (server_at c b) s)) (refusing_all c OutOfRange)) (refusing_all c OutOfRange)) (refusing_all c OutOfRange)
     go true true true = refl
     go true true false = put_back_is c a (one_of (server_count c) (server_at c a) (server_at c b) s) e
@@ -92,14 +92,14 @@ place_does c (S.WritesNothing a) = alone_does c a (S.WritesNothing a) (decided_s
 place_does c (S.NewestRead a key n term) = alone_does c a (S.NewestRead a key n term) (decided_sends _ _ (newest_rules (server_at c a) key n term) refl) ∙ core_newest c a key n term
 place_does c (S.TakesReport a) = refl
 
-pub plan_does : (c : Cluster) (r : ReadStep) → carried_out c (plan_of (server_count c) (well_formed c) r) ≡ respond c r
+pub plan_does : (c : Cluster) (r : Option Step) → carried_out c (plan_of (server_count c) (well_formed c) r) ≡ respond c r
 unfolding plan_of respond step_of carried_out
-plan_does c (R.Step s) = go (is_start s || well_formed c)
+plan_does c (Some s) = go (is_start s || well_formed c)
   where
-    go : (t : Bool) → carried_out c (cond t (place_of (server_count c) s) (Refuse IllFormed)) ≡ cond t (core_of c s) (refusing_all c IllFormed)
+    go : (t : Bool) → carried_out c (cond t (place_of (server_count c) s) (Err IllFormed)) ≡ cond t (core_of c s) (refusing_all c IllFormed)
     go true = place_does c s
     go false = refl
-plan_does c R.NoFrame = refl
+plan_does c None = refl
 
 -- ---- whom it names
 
@@ -107,16 +107,16 @@ pub record Inside (size : ℕ) (a b : ℕ) : Type 0 where
   pub first : a < size
   pub second : b < size
 
-abbrev Names : ℕ → Plan → Type 0
-Names size (Refuse r) = Unit {0}
-Names size (Server a b s) = Inside size a b
-Names size (Record s) = Unit {0}
+abbrev Names : ℕ → Result Plan Refusal → Type 0
+Names size (Err r) = Unit {0}
+Names size (Ok (Server a b s)) = Inside size a b
+Names size (Ok (Record s)) = Unit {0}
 
 alone_names : (size a : ℕ) (s : Step) → Names size (plan_alone size a s)
 unfolding plan_alone
 alone_names size a s = go (ltb a size) refl
   where
-    go : (t : Bool) → ltb a size ≡ t → Names size (cond t (Server a a s) (Refuse OutOfRange))
+    go : (t : Bool) → ltb a size ≡ t → Names size (cond t (Ok (Server a a s)) (Err OutOfRange))
     go true e = record { first = ltb-true a size e; second = ltb-true a size e }
     go false e = tt
 
@@ -125,7 +125,7 @@ unfolding plan_apart
 apart_names size a b s = go (ltb a size) (ltb b size) (eqb a b) refl refl
   where
     go : (t u v : Bool) → ltb a size ≡ t → ltb b size ≡ u
-        → Names size (cond t (cond u (cond v (Refuse OutOfRange) (Server a b s)) (Refuse OutOfRange)) (Refuse OutOfRange))
+        → Names size (cond t (cond u (cond v (Err OutOfRange) (Ok (Server a b s))) (Err OutOfRange)) (Err OutOfRange))
     go true true true e f = tt
     go true true false e f = record { first = ltb-true a size e; second = ltb-true b size f }
     go true false v e f = tt
@@ -151,14 +151,14 @@ place_names size (S.WritesNothing a) = alone_names size a (S.WritesNothing a)
 place_names size (S.NewestRead a key n term) = alone_names size a (S.NewestRead a key n term)
 place_names size (S.TakesReport a) = tt
 
-plan_names : (size : ℕ) (formed : Bool) (r : ReadStep) → Names size (plan_of size formed r)
+plan_names : (size : ℕ) (formed : Bool) (r : Option Step) → Names size (plan_of size formed r)
 unfolding plan_of
-plan_names size formed (R.Step s) = go (is_start s || formed)
+plan_names size formed (Some s) = go (is_start s || formed)
   where
-    go : (t : Bool) → Names size (cond t (place_of size s) (Refuse IllFormed))
+    go : (t : Bool) → Names size (cond t (place_of size s) (Err IllFormed))
     go true = place_names size s
     go false = tt
-plan_names size formed R.NoFrame = tt
+plan_names size formed None = tt
 
-pub plan_inside : (size : ℕ) (formed : Bool) (r : ReadStep) (a b : ℕ) (s : Step) → plan_of size formed r ≡ Server a b s → Inside size a b
+pub plan_inside : (size : ℕ) (formed : Bool) (r : Option Step) (a b : ℕ) (s : Step) → plan_of size formed r ≡ Ok (Server a b s) → Inside size a b
 plan_inside size formed r a b s e = rw e at (plan_names size formed r)

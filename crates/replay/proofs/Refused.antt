@@ -5,8 +5,8 @@ use Prim.Native.Nat.{ℕ}
 use Rattle.cluster.specs.declared.Cluster.{Cluster}
 use Rattle.steps.specs.declared.Answer.TheVariants.{Refused}
 use Rattle.steps.specs.declared.Refusal.{Refusal}
-use Rattle.frames.specs.declared.ReadStep.{ReadStep}
-use Rattle.frames.specs.declared.ReadStep.TheVariants.{Step, NoFrame}
+use Rattle.steps.specs.declared.Step.{Step}
+use Rattle.std.proofs.Common.{Option, Some, None}
 use Rattle.frames.specs.Steps.{read_step}
 use Rattle.rules.proofs.Outcomes.{refused_unchanged}
 use Rattle.replay.specs.Texts.{respond, answer_to}
@@ -15,6 +15,6 @@ pub refused_line : (c : Cluster) (line : List ℕ) (r : Refusal) → (answer_to 
 unfolding respond answer_to
 refused_line c line r = go (read_step line)
   where
-    go : (read : ReadStep) → (respond c read).answer ≡ Refused r → (respond c read).cluster ≡ c
-    go (Step s) e = refused_unchanged c s r e
-    go NoFrame e = refl
+    go : (read : Option Step) → (respond c read).answer ≡ Refused r → (respond c read).cluster ≡ c
+    go (Some s) e = refused_unchanged c s r e
+    go None e = refl

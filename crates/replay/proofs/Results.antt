@@ -15,14 +15,14 @@ use Prim.Native.Nat.{ℕ}
 use lib.ListN.{length}
 use Rattle.base.proofs.Results.{OneOutcome, OneResult, one_outcome, one_result}
 use Rattle.cluster.specs.declared.Cluster.{Cluster}
-use Rattle.frames.specs.declared.ReadStep.{ReadStep}
+use Rattle.steps.specs.declared.Step.{Step}
+use Rattle.std.proofs.Common.{Option}
 use Rattle.frames.specs.Steps.{read_step}
-use Rattle.lines.specs.declared.Reader.{Reader}
 use Rattle.replay.specs.declared.Session.{Session}
 use Rattle.replay.specs.declared.Fed.{Fed}
 use Rattle.replay.specs.declared.Finished.{Finished}
 use Rattle.replay.specs.Texts.{respond}
-use Rattle.lines.specs.Readers.{line_held}
+use Rattle.lines.specs.Readers.{Reader, line_held}
 use Rattle.replay.specs.Pieces.{begun, fed_of, fed_out, finish_of, finish_out}
 use Rattle.replay.specs.Plans.{plan_of}
 use Rattle.replay.proofs.begin.Reads as begin_reads
@@ -40,13 +40,13 @@ begin_lem c = one_result (begun c)
 pub step_held_lem : (r : Reader) → OneResult (λ x. step_held_reads.Learnt tt (r, tt) x (r, tt))
 step_held_lem r = one_result (read_step (line_held r))
 
-pub plan_for_lem : (size : ℕ) (formed : Bool) (read : ReadStep) → OneResult (λ x. plan_for_reads.Learnt tt (size, (formed, (read, tt))) x (size, (formed, (read, tt))))
+pub plan_for_lem : (size : ℕ) (formed : Bool) (read : Option Step) → OneResult (λ x. plan_for_reads.Learnt tt (size, (formed, (read, tt))) x (size, (formed, (read, tt))))
 plan_for_lem size formed read = one_result (plan_of size formed read)
 
 pub pour_lem : (κs : Lfts 2) (s : Session) (text : Bor (List ℕ)) (out : MutBor (List ℕ)) → OneOutcome (λ x o. pour_reads.Learnt κs (s, (text, (out, tt))) x (s, (text, (o, tt))))
 pour_lem κs s text out = one_outcome (fed_of s text.now (length out.now)) (fed_out s text.now out.now)
 
-pub respond_to_lem : (c : Cluster) (read : ReadStep) → OneResult (λ x. respond_to_reads.Learnt tt (c, (read, tt)) x (c, (read, tt)))
+pub respond_to_lem : (c : Cluster) (read : Option Step) → OneResult (λ x. respond_to_reads.Learnt tt (c, (read, tt)) x (c, (read, tt)))
 respond_to_lem c read = one_result (respond c read)
 
 pub close_lem : (κs : Lfts 1) (s : Session) (out : MutBor (List ℕ)) → OneOutcome (λ x o. close_reads.Learnt κs (s, (out, tt)) x (s, (o, tt)))

@@ -8,9 +8,8 @@ use lib.Dec.{eqb}
 use lib.ListN.{length}
 use Rattle.cluster.specs.declared.Cluster.{Cluster}
 use Rattle.steps.specs.declared.Outcome.{Outcome}
-use Rattle.lines.specs.declared.Reader.{Reader}
 use Rattle.lines.specs.Texts.{line_feed}
-use Rattle.lines.specs.Readers.{width, fresh_reader, line_held, is_empty, push_of, reader_after}
+use Rattle.lines.specs.Readers.{Reader, width, fresh_reader, line_held, is_empty, push_of, reader_after}
 use Rattle.lines.specs.Folds.{byte_after, at_end}
 use Rattle.lines.proofs.Held.{held_empty, held_some}
 use Rattle.lines.proofs.Readers.{StandsFor, push_holds, stands_held}

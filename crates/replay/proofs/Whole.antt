@@ -12,16 +12,15 @@ use Rattle.steps.specs.declared.Outcome.{Outcome}
 use Rattle.steps.specs.Answers.{telling_of}
 use Rattle.answers.specs.Answers.{write_answer}
 use Rattle.lines.proofs.Held.{held_empty, held_some, held_framed}
-use Rattle.frames.specs.declared.ReadStep.TheVariants.{NoFrame}
+use Rattle.std.proofs.Common.{None}
 use Rattle.frames.specs.Layout.{step_bytes}
 use Rattle.frames.specs.Steps.{step_in}
 use Rattle.answers.proofs.Lengths.{answer_line_length}
 use Rattle.cluster.specs.declared.Cluster.{Cluster}
-use Rattle.lines.specs.declared.Reader.{Reader}
 use Rattle.replay.specs.declared.Session.{Session}
 use Rattle.lines.specs.Texts.{line_feed, lines, together}
 use Rattle.replay.specs.Texts.{respond, answer_to, line_of, answers_to, record_after, answers, leaves}
-use Rattle.lines.specs.Readers.{width, fresh_reader, line_held, push_of, reader_after, reader_over}
+use Rattle.lines.specs.Readers.{Reader, width, fresh_reader, line_held, push_of, reader_after, reader_over}
 use Rattle.lines.specs.Folds.{over_lines, byte_after, over_bytes}
 use Rattle.replay.specs.Pieces.{answer_line, begun, line_after, after, said, runs, says, ending, ended, runs_all, says_all}
 use Rattle.lines.proofs.Lines.{Plain, none, more, plain_snoc, line_first, line_last}
@@ -30,7 +29,7 @@ use Rattle.lines.proofs.Folded.{folded}
 
 pub held_answer : (s : Cluster) (r : Reader) {p : List ℕ} → StandsFor r p → answer_to s (line_held r) ≡ answer_to s p
 unfolding answer_to line_held
-held_answer s r h = ap (respond s) (held_framed step_bytes step_in NoFrame width (omega arith) r.held r.fill r.over h)
+held_answer s r h = ap (respond s) (held_framed step_bytes step_in None width (omega arith) r.held r.fill r.over h)
 
 -- from any point of a line
 abbrev Right : List ℕ → Type 0

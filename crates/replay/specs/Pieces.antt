@@ -1,23 +1,18 @@
 -- A text byte by byte: a reader that keeps at most one frame's characters, and what it says on the way. Nobody has to believe this:
 -- by `any_pieces` and `any_pieces_record` it comes to the answers and the record of `Texts`. Assumes nothing.
-use Rattle.std.specs.Prelude.{ℕ, suc, ◌+◌, ◌-◌, ◌*◌, true, false, cond, List, [], ◌∷◌, ◌++◌, ltb, eqb, length, get_or, take, drop}
+use Rattle.std.specs.Prelude.{ℕ, suc, ◌+◌, ◌-◌, ◌*◌, true, false, cond, List, [], ◌∷◌, ◌++◌, ltb, eqb, length, get_or, take, drop, Option, Some, None}
 use Rattle.cluster.specs.declared.Cluster.{Cluster}
 use Rattle.frames.specs.Layout.{step_bytes}
 use Rattle.answers.specs.Answers.{answer_bytes}
 use Rattle.hex_text.specs.Lines.{chars}
-use Rattle.frames.specs.declared.ReadStep.{ReadStep}
-use Rattle.frames.specs.declared.ReadStep.TheVariants.{Step, NoFrame}
+use Rattle.steps.specs.declared.Step.{Step}
 use Rattle.frames.specs.Steps.{read_step}
-use Rattle.steps.specs.declared.Step.{Step as AnyStep}
-use Rattle.replay.specs.declared.Came.{Came}
-use Rattle.replay.specs.declared.Came.TheVariants.{Line, Character}
 use Rattle.replay.specs.declared.Next.{Next}
-use Rattle.lines.specs.declared.Reader.{Reader}
 use Rattle.replay.specs.declared.Session.{Session}
 use Rattle.replay.specs.declared.Fed.{Fed}
 use Rattle.replay.specs.declared.Finished.{Finished}
 use Rattle.lines.specs.Texts.{line_feed, placed}
-use Rattle.lines.specs.Readers.{fresh_reader, line_held, is_empty, reader_after}
+use Rattle.lines.specs.Readers.{Reader, fresh_reader, line_held, is_empty, reader_after}
 use Rattle.lines.specs.Folds.{byte_after, at_end}
 use Rattle.replay.specs.Texts.{answer_to, line_of}
 
@@ -33,21 +28,21 @@ abbrev pub begun : Cluster → Session
 begun c = record { cluster = c; reader = fresh_reader }
 
 -- the step of the line that a text has from a place on, where the reader is fresh, it has a frame's length and a line feed ends it
-unfoldable pub whole_line : Reader → List ℕ → ℕ → ReadStep
+unfoldable pub whole_line : Reader → List ℕ → ℕ → Option Step
 whole_line r text at =
-    cond (is_empty r) (cond (ltb (at + step_chars) (length text)) (cond (eqb (get_or text (at + step_chars) 0) line_feed) (read_step (take step_chars (drop at text))) NoFrame) NoFrame) NoFrame
+    cond (is_empty r) (cond (ltb (at + step_chars) (length text)) (cond (eqb (get_or text (at + step_chars) 0) line_feed) (read_step (take step_chars (drop at text))) None) None) None
 
 -- a whole step line came; or what one byte is: the end of the line that was read, or a character of it
-abbrev pub came_whole : AnyStep → Next
-came_whole s = record { came = Line (Step s); took = step_chars + 1; last = line_feed }
+abbrev pub came_whole : Step → Next
+came_whole s = record { line = Some (Some s); took = step_chars + 1; last = line_feed }
 
-unfoldable pub byte_is : Reader → ℕ → Came
-byte_is r b = cond (eqb b line_feed) (Line (read_step (line_held r))) Character
+unfoldable pub byte_is : Reader → ℕ → Option (Option Step)
+byte_is r b = cond (eqb b line_feed) (Some (read_step (line_held r))) None
 
 -- what a text has next from a place on: a whole step line, or else one byte
-unfoldable pub next_by : ReadStep → Reader → ℕ → Next
-next_by (Step s) r b = came_whole s
-next_by NoFrame r b = record { came = byte_is r b; took = 1; last = b }
+unfoldable pub next_by : Option Step → Reader → ℕ → Next
+next_by (Some s) r b = came_whole s
+next_by None r b = record { line = byte_is r b; took = 1; last = b }
 
 abbrev pub next_of : Reader → List ℕ → ℕ → Next
 next_of r text at = next_by (whole_line r text at) r (get_or text at 0)

@@ -1,21 +1,20 @@
 -- The answers to a text's lines, with nothing about how it arrives. Assumes nothing.
-use Rattle.std.specs.Prelude.{ℕ, List, [], ◌∷◌, ◌++◌}
+use Rattle.std.specs.Prelude.{ℕ, List, [], ◌∷◌, ◌++◌, Option, Some, None}
 use Rattle.cluster.specs.declared.Cluster.{Cluster}
 use Rattle.steps.specs.declared.Answer.{Answer}
 use Rattle.steps.specs.declared.Outcome.{Outcome}
 use Rattle.steps.specs.declared.Refusal.TheVariants.{NotAFrame}
 use Rattle.steps.specs.Answers.{refusing_all}
 use Rattle.rules.specs.Rules.{step_of}
-use Rattle.frames.specs.declared.ReadStep.{ReadStep}
-use Rattle.frames.specs.declared.ReadStep.TheVariants.{Step, NoFrame}
+use Rattle.steps.specs.declared.Step.{Step}
 use Rattle.frames.specs.Steps.{read_step}
 use Rattle.lines.specs.Texts.{line_feed, lines}
 use Rattle.answers.specs.Answers.{write_answer}
 
 -- what a line gives: its step, or refusal 1
-unfoldable pub respond : Cluster → ReadStep → Outcome
-respond c (Step s) = step_of c s
-respond c NoFrame = refusing_all c NotAFrame
+unfoldable pub respond : Cluster → Option Step → Outcome
+respond c (Some s) = step_of c s
+respond c None = refusing_all c NotAFrame
 
 unfoldable pub answer_to : Cluster → List ℕ → Outcome
 answer_to c line = respond c (read_step line)

@@ -10,7 +10,6 @@ ghost use Rattle.replay.specs.Pieces.{answer_line, begun, came_whole, byte_is, w
 ghost use Rattle.replay.specs.Plans.{plan_alone, plan_apart, place_of, plan_of};
 
 use cluster::Cluster;
-use frames::ReadStep;
 use lines::{LINE_FEED, Reader};
 use steps::{Answer, Outcome, Refusal, Step};
 
@@ -31,6 +30,7 @@ pub struct Fed {
     pub wrote: usize,
 }
 
+// Kept: a flag beside the session, since `an_end_without_room_waits` of claims says which session is left where the text has not ended.
 #[derive(Clone, Copy)]
 pub struct Finished {
     pub session: Session,
@@ -38,25 +38,18 @@ pub struct Finished {
     pub ended: bool,
 }
 
-// What a text has next: a line that reads so, or a character of one.
-#[derive(Clone, Copy)]
-pub enum Came {
-    Line(ReadStep),
-    Character,
-}
-
-// What came, how many bytes of the text it took, and the last of these, which the reader takes.
+// What a text has next: a line, with the step that it reads as, or no line yet; how many bytes of the text it took, and the last of these, which the
+// reader takes.
 #[derive(Clone, Copy)]
 pub struct Next {
-    pub came: Came,
+    pub line: Option<Option<Step>>,
     pub took: usize,
     pub last: u8,
 }
 
-// What a line is to do to the record: refuse, step one server that looks at another, or step the whole record.
+// What a line that isn't refused is to do to the record: step one server that looks at another, or step the whole record.
 #[derive(Clone, Copy)]
 pub enum Plan {
-    Refuse(Refusal),
     Server(usize, usize, Step),
     Record(Step),
 }
@@ -73,17 +66,13 @@ pub fn begin(c: Cluster) -> Session
 }
 
 // The step of the line that was read.
-pub fn step_held(r: Reader) -> ReadStep
+pub fn step_held(r: Reader) -> Option<Step>
     ensures { result ≡ read_step (line_held r) }
 {
-    if r.over {
-        return ReadStep::NoFrame;
+    if r.over || r.fill != frames::STEP_CHARS {
+        return None;
     }
-    if r.fill != frames::STEP_CHARS {
-        return ReadStep::NoFrame;
-    }
-    let b = r.held;
-    frames::read_frame(b)
+    frames::read_frame(r.held)
 }
 
 // A whole step line came.
@@ -91,131 +80,116 @@ fn came_whole(s: Step) -> Next
     ensures { result ≡ came_whole s }
 {
     Next {
-        came: Came::Line(ReadStep::Step(s)),
+        line: Some(Some(s)),
         took: frames::STEP_CHARS + 1,
         last: LINE_FEED,
     }
 }
 
 // What a byte is: the end of the line that was read, or a character.
-fn byte_is(r: Reader, b: u8) -> Came
+#[tactic(auto, unfolding(crate::specs::Pieces::byte_is))]
+fn byte_is(r: Reader, b: u8) -> Option<Option<Step>>
     ensures { result ≡ byte_is r b }
 {
     if b == LINE_FEED {
-        return Came::Line(step_held(r));
+        Some(step_held(r))
+    } else {
+        None
     }
-    Came::Character
 }
 
 // The step of the whole line that the text has from a place on, where the reader is fresh and the line is a step's frame.
-fn whole_line(r: Reader, text: &[u8], at: usize) -> ReadStep
+#[tactic(auto, unfolding(crate::specs::Pieces::whole_line))]
+fn whole_line(r: Reader, text: &[u8], at: usize) -> Option<Step>
     requires { at < length text.now }
     ensures { result ≡ whole_line r text.now at }
 {
-    if !lines::is_empty(r) {
-        return ReadStep::NoFrame;
-    }
-    if text.len() - at <= frames::STEP_CHARS {
-        return ReadStep::NoFrame;
+    if !lines::is_empty(r) || text.len() - at <= frames::STEP_CHARS {
+        return None;
     }
     let end = at + frames::STEP_CHARS;
     if text[end] != LINE_FEED {
-        return ReadStep::NoFrame;
+        return None;
     }
     frames::read_step(&text[at..end])
 }
 
 // What the text has next from a place on: a whole step line is read where it stands, anything else byte by byte.
+#[tactic(auto, unfolding(crate::specs::Pieces::next_by))]
 fn take_next(r: Reader, text: &[u8], at: usize) -> Next
     requires { at < length text.now }
     ensures { result ≡ next_of r text.now at }
 {
     let whole = whole_line(r, text, at);
-    if let ReadStep::Step(s) = whole {
+    if let Some(s) = whole {
         return came_whole(s);
     }
     let b = text[at];
     Next {
-        came: byte_is(r, b),
+        line: byte_is(r, b),
         took: 1,
         last: b,
     }
 }
 
-fn plan_alone(size: usize, a: usize, s: Step) -> Plan
+#[tactic(auto, unfolding(crate::specs::Plans::plan_alone))]
+fn plan_alone(size: usize, a: usize, s: Step) -> Result<Plan, Refusal>
     ensures { result ≡ plan_alone size a s }
 {
     if a < size {
-        Plan::Server(a, a, s)
+        Ok(Plan::Server(a, a, s))
     } else {
-        Plan::Refuse(Refusal::OutOfRange)
+        Err(Refusal::OutOfRange)
     }
 }
 
-fn plan_apart(size: usize, a: usize, b: usize, s: Step) -> Plan
+#[tactic(auto, unfolding(crate::specs::Plans::plan_apart))]
+fn plan_apart(size: usize, a: usize, b: usize, s: Step) -> Result<Plan, Refusal>
     ensures { result ≡ plan_apart size a b s }
 {
-    if size <= a {
-        return Plan::Refuse(Refusal::OutOfRange);
+    if a < size && b < size && a != b {
+        Ok(Plan::Server(a, b, s))
+    } else {
+        Err(Refusal::OutOfRange)
     }
-    if size <= b {
-        return Plan::Refuse(Refusal::OutOfRange);
-    }
-    if a == b {
-        return Plan::Refuse(Refusal::OutOfRange);
-    }
-    Plan::Server(a, b, s)
 }
 
 // Which servers a step is about.
-fn place(size: usize, s: Step) -> Plan
+#[tactic(auto, unfolding(crate::specs::Plans::place_of))]
+fn place(size: usize, s: Step) -> Result<Plan, Refusal>
     ensures { result ≡ place_of size s }
 {
     match s {
-        Step::Start(_, _) => Plan::Record(s),
-        Step::Elect(_, _) => Plan::Record(s),
-        Step::StepDown(a) => plan_alone(size, a as usize, s),
-        Step::Hears(a, b) => plan_apart(size, a as usize, b as usize, s),
-        Step::Pulls(_, _) => Plan::Record(s),
-        Step::RollsBack(_, _) => Plan::Record(s),
-        Step::Writes(a, _, _, _) => plan_alone(size, a as usize, s),
-        Step::Advances(_) => Plan::Record(s),
-        Step::WallClock(a) => plan_alone(size, a as usize, s),
-        Step::Restarts(a) => plan_alone(size, a as usize, s),
-        Step::LocalRead(a, _, _) => plan_alone(size, a as usize, s),
-        Step::MajorityRead(a, _, _) => plan_alone(size, a as usize, s),
-        Step::Acknowledged(a, _, _, _) => plan_alone(size, a as usize, s),
-        Step::ClocksAgree => Plan::Record(s),
-        Step::WritesNothing(a) => plan_alone(size, a as usize, s),
-        Step::NewestRead(a, _, _, _) => plan_alone(size, a as usize, s),
-        Step::TakesReport(_) => Plan::Record(s),
+        Step::Start(_, _) => Ok(Plan::Record(s)),
+        Step::Elect(_, _) => Ok(Plan::Record(s)),
+        Step::StepDown(a) => plan_alone(size, usize::from(a), s),
+        Step::Hears(a, b) => plan_apart(size, usize::from(a), usize::from(b), s),
+        Step::Pulls(_, _) => Ok(Plan::Record(s)),
+        Step::RollsBack(_, _) => Ok(Plan::Record(s)),
+        Step::Writes(a, _, _, _) => plan_alone(size, usize::from(a), s),
+        Step::Advances(_) => Ok(Plan::Record(s)),
+        Step::WallClock(a) => plan_alone(size, usize::from(a), s),
+        Step::Restarts(a) => plan_alone(size, usize::from(a), s),
+        Step::LocalRead(a, _, _) => plan_alone(size, usize::from(a), s),
+        Step::MajorityRead(a, _, _) => plan_alone(size, usize::from(a), s),
+        Step::Acknowledged(a, _, _, _) => plan_alone(size, usize::from(a), s),
+        Step::ClocksAgree => Ok(Plan::Record(s)),
+        Step::WritesNothing(a) => plan_alone(size, usize::from(a), s),
+        Step::NewestRead(a, _, _, _) => plan_alone(size, usize::from(a), s),
+        Step::TakesReport(_) => Ok(Plan::Record(s)),
     }
 }
 
 // What a line that reads so is to do to a record of so many servers, well formed or not.
-pub fn plan_for(size: usize, formed: bool, read: ReadStep) -> Plan
+#[tactic(auto, unfolding(crate::specs::Plans::plan_of))]
+pub fn plan_for(size: usize, formed: bool, read: Option<Step>) -> Result<Plan, Refusal>
     ensures { result ≡ plan_of size formed read }
 {
-    let ReadStep::Step(s) = read else {
-        return Plan::Refuse(Refusal::NotAFrame);
-    };
-    if formed {
-        return place(size, s);
-    }
-    if rules::is_start(s) {
-        return place(size, s);
-    }
-    Plan::Refuse(Refusal::IllFormed)
-}
-
-fn copy_in(src: &[u8], dst: &mut [u8], at: usize)
-    requires { at + length src.now ≤ length dst.old }
-    ensures { dst.new ≡ placed dst.old at src.now }
-{
-    let mut j: usize = 0;
-    while j < src.len() {
-        dst[at + j] = src[j];
-        j += 1;
+    let s = read.ok_or(Refusal::NotAFrame)?;
+    if formed || rules::is_start(s) {
+        place(size, s)
+    } else {
+        Err(Refusal::IllFormed)
     }
 }
 
@@ -224,9 +198,9 @@ fn put(out: &mut [u8], at: usize, a: Answer)
     requires { at + answer_line ≤ length out.old }
     ensures { out.new ≡ placed out.old at (line_of a) }
 {
-    let f = answers::write_answer(a);
-    copy_in(&f, out, at);
-    out[at + answers::ANSWER_CHARS] = LINE_FEED;
+    let end = at + answers::ANSWER_CHARS;
+    out[at..end].copy_from_slice(&answers::write_answer(a));
+    out[end] = LINE_FEED;
 }
 
 // A session part of the way along a text.
@@ -243,40 +217,39 @@ fn so_far(c: Cluster, r: Reader, taken: usize, wrote: usize) -> Fed
     }
 }
 
-// Takes bytes of the text while the buffer has room for an answer line. The record and the reader stay in locals: one server is replaced a step,
-// and the reader is lent for a byte.
-fn feed_by(from: Cluster, reader: Reader, text: &[u8], out: &mut [u8]) -> Fed
-    ensures result { result ≡ fed_of (record { cluster = from; reader = reader }) text.now (length out.old) }
-    ensures output { out.new ≡ fed_out (record { cluster = from; reader = reader }) text.now out.old }
+// A piece of a text: its bytes are taken while the buffer has room for an answer line. The record and the reader stay in locals: one server is replaced
+// a step, and the reader is lent for a byte.
+// Kept: a `while`, since a turn takes one byte or a whole line.
+pub fn pour(s: Session, text: &[u8], out: &mut [u8]) -> Fed
+    ensures result { result ≡ fed_of s text.now (length out.old) }
+    ensures output { out.new ≡ fed_out s text.now out.old }
 {
-    let mut c = from;
-    let mut r = reader;
+    let mut c = s.cluster;
+    let mut r = s.reader;
     let mut w: usize = 0;
     let mut i: usize = 0;
     while i < text.len() && ANSWER_LINE <= out.len() - w {
         let n = take_next(r, text, i);
         i += n.took;
         r = lines::taken(r, n.last);
-        let came = n.came;
-        let Came::Line(read) = came else {
+        let Some(read) = n.line else {
             continue;
         };
         let size = cluster::server_count(c.count);
         let formed = cluster::well_formed(c);
-        let p = plan_for(size, formed, read);
-        let answer = match p {
-            Plan::Refuse(x) => Answer::Refused(x),
-            Plan::Server(a, b, step) => {
+        let answer = match plan_for(size, formed, read) {
+            Ok(Plan::Server(a, b, step)) => {
                 let o = rules::one(size, c.servers[a], c.servers[b], step);
                 let d = o.server;
                 c.servers[a] = d;
                 o.answer
             }
-            Plan::Record(step) => {
+            Ok(Plan::Record(step)) => {
                 let o = rules::core(c, step);
                 c = o.cluster;
                 o.answer
             }
+            Err(refusal) => Answer::Refused(refusal),
         };
         put(out, w, answer);
         w += ANSWER_LINE;
@@ -285,20 +258,23 @@ fn feed_by(from: Cluster, reader: Reader, text: &[u8], out: &mut [u8]) -> Fed
 }
 
 // The record and the answer after a line that reads so.
-pub fn respond_to(c: Cluster, read: ReadStep) -> Outcome
+#[tactic(auto, unfolding(crate::specs::Texts::respond))]
+pub fn respond_to(c: Cluster, read: Option<Step>) -> Outcome
     ensures { result ≡ respond c read }
 {
-    let ReadStep::Step(s) = read else {
+    let Some(s) = read else {
         return steps::refuse_all(c, Refusal::NotAFrame);
     };
     rules::step(c, s)
 }
 
 // The end of the text: a rest without a line feed counts if it isn't empty, and the reader is fresh again.
-fn finish_by(c: Cluster, r: Reader, out: &mut [u8]) -> Finished
-    ensures result { result ≡ finish_of (record { cluster = c; reader = r }) (length out.old) }
-    ensures output { out.new ≡ finish_out (record { cluster = c; reader = r }) out.old }
+pub fn close(s: Session, out: &mut [u8]) -> Finished
+    ensures result { result ≡ finish_of s (length out.old) }
+    ensures output { out.new ≡ finish_out s out.old }
 {
+    let c = s.cluster;
+    let r = s.reader;
     if lines::is_empty(r) {
         return Finished {
             session: begin(c),
@@ -308,20 +284,15 @@ fn finish_by(c: Cluster, r: Reader, out: &mut [u8]) -> Finished
     }
     if out.len() < ANSWER_LINE {
         return Finished {
-            session: Session {
-                cluster: c,
-                reader: r,
-            },
+            session: s,
             wrote: 0,
             ended: false,
         };
     }
     let o = respond_to(c, step_held(r));
-    let a = o.answer;
-    let d = o.cluster;
-    put(out, 0, a);
+    put(out, 0, o.answer);
     Finished {
-        session: begin(d),
+        session: begin(o.cluster),
         wrote: ANSWER_LINE,
         ended: true,
     }
@@ -333,7 +304,11 @@ pub fn feed(c: Cluster, r: &mut Reader, text: &[u8], out: &mut [u8]) -> Fed
     ensures reader { r.new ≡ (fed_of (record { cluster = c; reader = r.old }) text.now (length out.old)).session.reader }
     ensures output { out.new ≡ fed_out (record { cluster = c; reader = r.old }) text.now out.old }
 {
-    let f = feed_by(c, *r, text, out);
+    let s = Session {
+        cluster: c,
+        reader: *r,
+    };
+    let f = pour(s, text, out);
     *r = f.session.reader;
     f
 }
@@ -344,25 +319,11 @@ pub fn finish(c: Cluster, r: &mut Reader, out: &mut [u8]) -> Finished
     ensures reader { r.new ≡ (finish_of (record { cluster = c; reader = r.old }) (length out.old)).session.reader }
     ensures output { out.new ≡ finish_out (record { cluster = c; reader = r.old }) out.old }
 {
-    let f = finish_by(c, *r, out);
+    let s = Session {
+        cluster: c,
+        reader: *r,
+    };
+    let f = close(s, out);
     *r = f.session.reader;
     f
-}
-
-// A piece for a session, whose reader is put into a local and lent: whoever calls this needs no walk by hand.
-pub fn pour(s: Session, text: &[u8], out: &mut [u8]) -> Fed
-    ensures result { result ≡ fed_of s text.now (length out.old) }
-    ensures output { out.new ≡ fed_out s text.now out.old }
-{
-    let mut r = s.reader;
-    feed(s.cluster, &mut r, text, out)
-}
-
-// The end for a session, likewise.
-pub fn close(s: Session, out: &mut [u8]) -> Finished
-    ensures result { result ≡ finish_of s (length out.old) }
-    ensures output { out.new ≡ finish_out s out.old }
-{
-    let mut r = s.reader;
-    finish(s.cluster, &mut r, out)
 }

@@ -4,8 +4,8 @@ use mathlib.Core.Bool.{true, false}
 use mathlib.Core.List.{List, [], ◌∷◌, ◌++◌}
 use Rattle.base.proofs.Bools.{not_both}
 use Rattle.clock.specs.declared.Time.{Time}
-use Rattle.clock.specs.declared.Ticked.{Ticked}
-use Rattle.clock.specs.declared.Ticked.TheVariants.{To, AtLimit}
+use Rattle.std.specs.declared.option.Option.{Option}
+use Rattle.std.specs.declared.option.Option.TheVariants.{Some, None}
 use Rattle.clock.specs.Times.{is_before, tick_of}
 use Rattle.clock.proofs.Order.{then_before}
 use Rattle.clock.proofs.Ticks.{tick_after}
@@ -22,12 +22,12 @@ use Rattle.singles.specs.Appends.{ticks, tick_time, append_rules}
 abbrev pub stamp_from : Server → Time → Time
 stamp_from s from = tick_time (tick_of s.head.wall from)
 
-ticked_to : (k : Ticked) → ticks k ≡ true → k ≡ To (tick_time k)
-ticked_to (To t) e = refl
-ticked_to AtLimit e = not_both false e refl
+ticked_to : (k : Option Time) → ticks k ≡ true → k ≡ Some (tick_time k)
+ticked_to (Some t) e = refl
+ticked_to None e = not_both false e refl
 
 module _ (s : Server) (from : Time) (c : Clear (append_rules s from)) where
-  pub ticked : tick_of s.head.wall from ≡ To (stamp_from s from)
+  pub ticked : tick_of s.head.wall from ≡ Some (stamp_from s from)
   ticked = ticked_to (tick_of s.head.wall from) c.1.1.0
 
   -- whatever the start is not before is before the stamp

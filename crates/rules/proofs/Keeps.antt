@@ -1,8 +1,10 @@
 -- Every step that fits keeps what the types give and well-formedness, from every well-formed record, reached or not. Assumes nothing.
+use Rattle.std.proofs.Common.{Option, None, Some}
+use Rattle.std.specs.Option.{option_and_then}
 use mathlib.Core.Path.{◌≡◌, refl, ap, sym}
 use mathlib.Core.Bool.{Bool, true, false, cond, not, ◌||◌}
 use mathlib.Core.Logic.{◌≢◌, inl, inr, ⊎_elim}
-use Prim.Native.Nat.{ℕ, ◌-◌, ◌<◌, ◌≤◌}
+use Prim.Native.Nat.{ℕ, ◌<◌, ◌≤◌}
 use native.Mathlib.Omega.{arith}
 use lib.Dec.{eqb, ltb}
 use borrow.Author.Tests.{eqb-false, ltb-true, leb-true, lt-ltb, le-ltb, not-true}
@@ -15,7 +17,7 @@ use Rattle.server_log.specs.Logs.{length_of}
 use Rattle.server_log.specs.Order.{no_key}
 use Rattle.mail.specs.declared.Report.{Report}
 use Rattle.mail.specs.Ranges.{FitsReport}
-use Rattle.mail.proofs.Good.{UsedReport}
+use Rattle.mail.proofs.Good.{UsedReport, SourceGood}
 use Rattle.mail.proofs.Kept.{received_good, oldest_used}
 use Rattle.mail.proofs.Ranges.{fits_received, fits_report_at}
 use Rattle.cluster.specs.declared.Server.{Server}
@@ -28,9 +30,9 @@ use Rattle.cluster.proofs.Fresh.{good_fresh, fits_fresh}
 use Rattle.cluster.proofs.Good.{size_good, Good, good, well_formed_lem}
 use Rattle.cluster.proofs.Masks.{within_member, apart_member}
 use Rattle.steps.specs.declared.Outcome.{Outcome}
-use Rattle.steps.specs.declared.Sends.TheVariants.{Nothing, To}
 use Rattle.steps.specs.declared.Step.{Step}
 use Rattle.steps.specs.declared.Step.TheVariants.{Start, Elect, StepDown, Hears, Pulls, RollsBack, Writes, Advances, WallClock, Restarts, LocalRead, MajorityRead, Acknowledged, ClocksAgree, WritesNothing, NewestRead, TakesReport}
+use Rattle.steps.specs.Answers.{report_to}
 use Rattle.base.specs.Numbers.{byte}
 use Rattle.steps.specs.Ranges.{FitsStep}
 use Rattle.steps.specs.Reasons.{Clear}
@@ -44,10 +46,10 @@ use Rattle.pairs.specs.Hears.{heard_of}
 use Rattle.pairs.specs.Pulls.{took_of}
 use Rattle.pairs.specs.Reports.{report_of, sent_of}
 use Rattle.singles.specs.Appends.{stamped_of}
-use Rattle.singles.specs.TakesReport.{take_rules, oldest_of, goes_no_further, forwards, take_done}
+use Rattle.singles.specs.TakesReport.{take_rules, oldest_of, forwards, take_done}
 use Rattle.rules.specs.Rules.{delivered, put_back, row_of, rules_of, done_of, is_start, step_of}
 use Rattle.rules.proofs.Outcomes.{step_done, StepDone, step_cases}
-use Rattle.rules.proofs.Others.{or_neither, voted_inside, voted_outside, clocked_counted, clocked_past}
+use Rattle.rules.proofs.Others.{voted_inside, voted_outside, clocked_counted, clocked_past}
 use Rattle.rules.proofs.Servers.{mail_set, sourced_sound, report_used, report_fits, taken_sound, pulled_some, rolled_some, down_sound, wall_sound, restarted_sound, committed_sound, voted_sound, heard_sound, pulled_sound, rolled_sound, appended_sound}
 use Rattle.rules.proofs.Ranges.{fits_later}
 use Rattle.cluster.proofs.Sound.{ServerSound, Sound, counted_sound}
@@ -130,7 +132,7 @@ module _ {c : Cluster} (h : Sound c) where
       put a _ k.0 (λ x. committed_sound x _ (omega arith) to) (λ r. r)
 
 -- a used report that a counted server is sent
-delivered_sound : {c : Cluster} → Sound c → (b : ℕ) (r : Report) → b < c.count → UsedReport c.count r → FitsReport r → Sound (delivered c (To b r))
+delivered_sound : {c : Cluster} → Sound c → (b : ℕ) (r : Report) → b < c.count → UsedReport c.count r → FitsReport r → Sound (delivered c (report_to b r))
 unfolding delivered
 delivered_sound h b r l used fits =
     replaced_sound h b _ l (let x = counted_sound h b l in mail_set x (fits_received x.fits.mail fits) (received_good x.mailed used))
@@ -143,7 +145,7 @@ apart a b e q = eqb-false a b (not-true (eqb a b) e) (sym q)
 -- a server that took over entries, its source and its report
 sent_sound : {c : Cluster} (h : Sound c) (a b : ℕ) (s : Server) → ltb a (server_count c) ≡ true → ltb b (server_count c) ≡ true → not (eqb a b) ≡ true
     → (ServerSound c.count a (server_at c a) → ServerSound c.count b (server_at c b) → ServerSound c.count a s × (1 ≤ length_of s.log))
-    → (s.head.primary ≡ true → (server_at c a).head.primary ≡ true) → Sound (delivered (with_server c a (sent_of a b s).server) (To b (report_of a s)))
+    → (s.head.primary ≡ true → (server_at c a).head.primary ≡ true) → Sound (delivered (with_server c a (sent_of a b s).server) (report_to b (report_of a s)))
 sent_sound h a b s la lb ne new role =
     let few = h.good.at_most_seven in
     let l = counted h a la in
@@ -154,7 +156,7 @@ sent_sound h a b s la lb ne new role =
 -- the oldest report, taken and sent on to the source where there is one
 took_report : {c : Cluster} → Sound c → (a : ℕ) → a < c.count → Clear (take_rules (server_at c a)) → Sound (put_back c a (take_done (server_at c a))).cluster
 unfolding forwards delivered
-took_report {c} h a l k = go (goes_no_further s) refl
+took_report {c} h a l k = go s.head.primary s.mail.source x.mailed.source
   where
     s : Server
     s = server_at c a
@@ -165,12 +167,12 @@ took_report {c} h a l k = go (goes_no_further s) refl
     d : Sound (with_server c a (take_done s).server)
     d = replaced_sound h a _ l (taken_sound x k) (h.good.primaries_vote a l)
 
-    go : (b : Bool) → goes_no_further s ≡ b → Sound (delivered (with_server c a (take_done s).server) (cond b Nothing (To (s.mail.source - 1) (oldest_of s))))
-    go true e = d
-    go false e =
-        let some = leb-true 1 s.mail.queue.len k.0 in
-        let source : s.mail.source - 1 < c.count = omega (arith, x.mailed.source.within, eqb-false s.mail.source 0 (or_neither s.head.primary _ e).1) in
-        delivered_sound d _ (oldest_of s) source (oldest_used x.mailed.queue some) (fits_report_at x.fits.mail.queue 0)
+    go : (p : Bool) (source : Option ℕ) → SourceGood c.count a source
+        → Sound (delivered (with_server c a (take_done s).server) (cond p None (option_and_then (λ b. report_to b (oldest_of s)) source)))
+    go true source g = d
+    go false None g = d
+    go false (Some b) g =
+        delivered_sound d b (oldest_of s) g.within (oldest_used x.mailed.queue (leb-true 1 s.mail.queue.len k.0)) (fits_report_at x.fits.mail.queue 0)
 
 -- a start needs nothing of the record before
 done_sound : (c : Cluster) (s : Step) → (is_start s ≡ false → Sound c) → FitsStep s → Clear (rules_of c s) → Sound (done_of c s).cluster

@@ -1,9 +1,11 @@
 -- Only the servers that a step names change, and in what they change; the server count and the followers stay. Assumes nothing.
+use Rattle.std.proofs.Common.{Option, None, Some}
+use Rattle.std.specs.Option.{option_and_then}
 use mathlib.Core.Path.{◌≡◌, refl, ap, sym, ◌∙◌, subst}
 use mathlib.Core.Bool.{Bool, true, false, cond, ◌||◌}
 use mathlib.Core.List.{List}
 use mathlib.Core.Logic.{◌≢◌, ⊎_elim, by_cases}
-use Prim.Native.Nat.{ℕ, suc, ◌-◌, ◌<◌, ◌≤◌}
+use Prim.Native.Nat.{ℕ, ◌<◌, ◌≤◌}
 use native.Mathlib.Decide.{ℕ_discrete}
 use native.Mathlib.Omega.{arith}
 use lib.Dec.{eqb, ltb}
@@ -23,14 +25,14 @@ use Rattle.cluster.specs.Sets.{member}
 use Rattle.cluster.proofs.Changed.{replaced_here, replaced_others, changed_at}
 use Rattle.steps.specs.declared.Step.{Step}
 use Rattle.steps.specs.declared.Step.TheVariants.{Start, Elect, StepDown, Hears, Pulls, RollsBack, Writes, Advances, WallClock, Restarts, LocalRead, MajorityRead, Acknowledged, ClocksAgree, WritesNothing, NewestRead, TakesReport}
-use Rattle.steps.specs.declared.Sends.{Sends}
-use Rattle.steps.specs.declared.Sends.TheVariants.{Nothing, To}
+use Rattle.steps.specs.declared.Sent.{Sent}
+use Rattle.steps.specs.Answers.{report_to}
 use Rattle.wholes.specs.Elects.{new_term}
 use Rattle.wholes.specs.ClocksAgree.{greatest_clock}
-use Rattle.singles.specs.TakesReport.{oldest_of, goes_no_further, forwards}
+use Rattle.singles.specs.TakesReport.{oldest_of, forwards}
 use Rattle.rules.specs.Rules.{delivered, row_of, done_of, is_start, step_of}
 use Rattle.rules.proofs.Outcomes.{step_cases}
-use Rattle.rules.specs.Statements.{touches}
+use Rattle.rules.specs.Statements.{is_source, touches}
 
 -- ---- servers before and after
 
@@ -105,7 +107,7 @@ module _ (R : Server → Server → Type 0) (itself : (s : Server) → R s s) wh
 -- ---- the others are unchanged
 
 -- a delivery changes only the server that it goes to
-pub delivered_others : (c : Cluster) (b : ℕ) (r : Report) (i : ℕ) → i ≢ b → server_at (delivered c (To b r)) i ≡ server_at c i
+pub delivered_others : (c : Cluster) (b : ℕ) (r : Report) (i : ℕ) → i ≢ b → server_at (delivered c (report_to b r)) i ≡ server_at c i
 unfolding delivered
 delivered_others c b r i ne = replaced_others c b _ i ne
 
@@ -113,10 +115,10 @@ delivered_others c b r i ne = replaced_others c b _ i ne
 abbrev pub SameSize : Cluster → Cluster → Type 0
 SameSize c d = (d.count ≡ c.count) × (d.followers ≡ c.followers)
 
-pub delivered_size : (c : Cluster) (x : Sends) → SameSize c (delivered c x)
+pub delivered_size : (c : Cluster) (x : Option Sent) → SameSize c (delivered c x)
 unfolding delivered
-delivered_size c Nothing = (refl, refl)
-delivered_size c (To b r) = (refl, refl)
+delivered_size c None = (refl, refl)
+delivered_size c (Some t) = (refl, refl)
 
 -- t is what s was
 abbrev Same : Server → Server → Type 0
@@ -127,25 +129,27 @@ or_neither true y e = not_both true refl e
 or_neither false y e = (refl, e)
 
 -- neither the server that takes a step nor the one that it sends a report to
-sent_others : (c : Cluster) (a b : ℕ) (s : Server) (r : Report) (i : ℕ) → (eqb i a || eqb i b) ≡ false → server_at (delivered (with_server c a s) (To b r)) i ≡ server_at c i
+sent_others : (c : Cluster) (a b : ℕ) (s : Server) (r : Report) (i : ℕ) → (eqb i a || eqb i b) ≡ false → server_at (delivered (with_server c a s) (report_to b r)) i ≡ server_at c i
 sent_others c a b s r i e =
     let n = or_neither (eqb i a) (eqb i b) e in
     delivered_others (with_server c a s) b r i (eqb-false i b n.1) ∙ replaced_others c a s i (eqb-false i a n.0)
 
-forwarded_others : (c : Cluster) (a : ℕ) (s : Server) (i : ℕ) → (eqb i a || eqb (suc i) (server_at c a).mail.source) ≡ false
+forwarded_others : (c : Cluster) (a : ℕ) (s : Server) (i : ℕ) → (eqb i a || is_source (server_at c a).mail.source i) ≡ false
     → server_at (delivered (with_server c a s) (forwards (server_at c a))) i ≡ server_at c i
 unfolding forwards delivered
-forwarded_others c a s i e = go (goes_no_further (server_at c a)) refl
+forwarded_others c a s i e = go (server_at c a).head.primary (server_at c a).mail.source n.1
   where
-    n : (eqb i a ≡ false) × (eqb (suc i) (server_at c a).mail.source ≡ false)
-    n = or_neither (eqb i a) (eqb (suc i) (server_at c a).mail.source) e
+    n : (eqb i a ≡ false) × (is_source (server_at c a).mail.source i ≡ false)
+    n = or_neither (eqb i a) (is_source (server_at c a).mail.source i) e
 
-    go : (b : Bool) → goes_no_further (server_at c a) ≡ b
-        → server_at (delivered (with_server c a s) (cond b Nothing (To ((server_at c a).mail.source - 1) (oldest_of (server_at c a))))) i ≡ server_at c i
-    go true k = replaced_others c a s i (eqb-false i a n.0)
-    go false k =
-        replaced_others (with_server c a s) _ _ i (λ q. eqb-false (suc i) (server_at c a).mail.source n.1 (omega (arith, eqb-false (server_at c a).mail.source 0 (or_neither (server_at c a).head.primary _ k).1)))
-        ∙ replaced_others c a s i (eqb-false i a n.0)
+    kept : server_at (with_server c a s) i ≡ server_at c i
+    kept = replaced_others c a s i (eqb-false i a n.0)
+
+    go : (p : Bool) (source : Option ℕ) → is_source source i ≡ false
+        → server_at (delivered (with_server c a s) (cond p None (option_and_then (λ b. report_to b (oldest_of (server_at c a))) source))) i ≡ server_at c i
+    go true source k = kept
+    go false None k = kept
+    go false (Some b) k = replaced_others (with_server c a s) b _ i (eqb-false i b k) ∙ kept
 
 done_others : (c : Cluster) (s : Step) (i : ℕ) → touches c s i ≡ false → server_at (done_of c s).cluster i ≡ server_at c i
 unfolding row_of delivered
@@ -229,13 +233,13 @@ elect_changes c a m i =
 abbrev pub SameButQueue : Server → Server → Type 0
 SameButQueue s t = t ≡ with_mail s (with_queue s.mail t.mail.queue)
 
-pub delivered_queue : (c : Cluster) (x : Sends) (i : ℕ) → SameButQueue (server_at c i) (server_at (delivered c x) i)
+pub delivered_queue : (c : Cluster) (x : Option Sent) (i : ℕ) → SameButQueue (server_at c i) (server_at (delivered c x) i)
 unfolding delivered
-delivered_queue c Nothing i = refl
-delivered_queue c (To b r) i = put_either (SameButQueue (server_at c i)) c b _ i (λ e. rw e) refl
+delivered_queue c None i = refl
+delivered_queue c (Some t) i = put_either (SameButQueue (server_at c i)) c t.to _ i (λ e. rw e) refl
 
 -- so do pulls, rollbacks and reports that are taken, of all servers but the one that takes the step
-told_others : (c : Cluster) (a : ℕ) (s : Server) (x : Sends) (i : ℕ) → i ≢ a → SameButQueue (server_at c i) (server_at (delivered (with_server c a s) x) i)
+told_others : (c : Cluster) (a : ℕ) (s : Server) (x : Option Sent) (i : ℕ) → i ≢ a → SameButQueue (server_at c i) (server_at (delivered (with_server c a s) x) i)
 told_others c a s x i ne =
     subst (λ (t : Server). SameButQueue t (server_at (delivered (with_server c a s) x) i)) (replaced_others c a s i ne) (delivered_queue (with_server c a s) x i)
 

@@ -97,3 +97,20 @@ module _ (c : Cluster) (a : ℕ) where
     pub core_rolls_back : pair_of c a b (RollsBack a b) ≡ core_of c (RollsBack a b)
     unfolding pair_of one_of core_of row_of
     core_rolls_back = apart_place _ _ (placed c a (roll_done (server_at c a) (server_at c b) a b) (roll_rules (server_at c a) (server_at c b)))
+
+-- of each kind that changes one server
+pub ruleset placed_kinds = (
+  core_down,
+  core_hears,
+  core_pulls,
+  core_rolls_back,
+  core_writes,
+  core_clock,
+  core_restarts,
+  core_local,
+  core_majority,
+  core_acknowledged,
+  core_nothing,
+  core_newest,
+  core_takes_report,
+)

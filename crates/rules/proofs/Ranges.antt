@@ -3,7 +3,7 @@ use mathlib.Core.Path.{◌≡◌}
 use Prim.Native.Nat.{ℕ, ◌≤◌}
 use native.Mathlib.Omega.{arith}
 use Rattle.clock.specs.declared.Time.{Time}
-use Rattle.clock.specs.declared.Ticked.TheVariants.{To}
+use Rattle.std.specs.declared.option.Option.TheVariants.{Some}
 use Rattle.clock.specs.Times.{limit, later_of, tick_of}
 use Rattle.clock.specs.Ranges.{FitsTime}
 use Rattle.clock.proofs.Order.{later_either}
@@ -13,7 +13,7 @@ pub fits_later : (s t : Time) → FitsTime s → FitsTime t → FitsTime (later_
 fits_later s t fs ft = later_either s t FitsTime fs ft
 
 -- l grows only below its limit, and a wall clock fits
-pub fits_tick : (wall : ℕ) (t u : Time) → wall ≤ limit → FitsTime t → tick_of wall t ≡ To u → FitsTime u
+pub fits_tick : (wall : ℕ) (t u : Time) → wall ≤ limit → FitsTime t → tick_of wall t ≡ Some u → FitsTime u
 fits_tick wall t u w f e = go (tick_is wall t u e)
   where
     go : {u : Time} → TickIs wall t u → FitsTime u

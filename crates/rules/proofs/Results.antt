@@ -1,10 +1,11 @@
 -- Each public function's contract allows one result, whatever the arguments. Assumes nothing.
+use Rattle.std.proofs.Common.{Option}
 use Prim.Native.Nat.{ℕ}
 use Rattle.base.proofs.Results.{OneResult, one_result}
 use Rattle.cluster.specs.declared.Cluster.{Cluster}
 use Rattle.cluster.specs.declared.Server.{Server}
 use Rattle.steps.specs.declared.Step.{Step}
-use Rattle.steps.specs.declared.Sends.{Sends}
+use Rattle.steps.specs.declared.Sent.{Sent}
 use Rattle.steps.specs.declared.Stepped.{Stepped}
 use Rattle.rules.specs.One.{one_of, pair_of, single_of, untouched_of}
 use Rattle.rules.specs.Rules.{delivered, put_back, core_of, is_start, step_of}
@@ -24,7 +25,7 @@ untouched_lem s = one_result (untouched_of s)
 pub one_lem : (size : ℕ) (s t : Server) (kind : Step) → OneResult (λ x. one_reads.Learnt tt (size, (s, (t, (kind, tt)))) x (size, (s, (t, (kind, tt)))))
 one_lem size s t kind = one_result (one_of size s t kind)
 
-pub deliver_lem : (c : Cluster) (sends : Sends) → OneResult (λ x. deliver_reads.Learnt tt (c, (sends, tt)) x (c, (sends, tt)))
+pub deliver_lem : (c : Cluster) (sends : Option Sent) → OneResult (λ x. deliver_reads.Learnt tt (c, (sends, tt)) x (c, (sends, tt)))
 deliver_lem c sends = one_result (delivered c sends)
 
 pub put_back_lem : (c : Cluster) (a : ℕ) (o : Stepped) → OneResult (λ x. put_back_reads.Learnt tt (c, (a, (o, tt))) x (c, (a, (o, tt))))

@@ -1,10 +1,10 @@
 -- A counted server of a well-formed record stays one, kind by kind, where its rules are clear. Assumes nothing.
+use Rattle.std.proofs.Common.{Some}
 use mathlib.Core.Path.{◌≡◌, refl, ap, sym, ◌∙◌, subst}
 use mathlib.Core.Bool.{Bool, true, false, cond, ◌&&◌, ◌||◌}
 use mathlib.Core.Logic.{◌≢◌, ⊎_elim}
 use mathlib.Core.List.{List, [], ◌∷◌, ◌++◌}
-use Prim.Native.Nat.{ℕ, ◌+◌, ◌<◌, ◌≤◌, max}
-use native.Mathlib.Numerals.{add-one}
+use Prim.Native.Nat.{ℕ, ◌<◌, ◌≤◌, max}
 use native.Mathlib.Omega.{arith}
 use lib.Dec.{eqb, ltb}
 use lib.ListN.{length, take}
@@ -46,7 +46,7 @@ use Rattle.cluster.proofs.Changed.{fits_head, fits_log, fits_mail, fits_rows}
 use Rattle.cluster.proofs.Sound.{ServerSound}
 use Rattle.steps.specs.Reasons.{Clear}
 use Rattle.steps.specs.Answers.{number_of}
-use Rattle.steps.proofs.Numbers.{number_kept, number_fits}
+use Rattle.steps.proofs.Positions.{number_kept, number_fits}
 use Rattle.pairs.specs.Hears.{takes_commit, heard_of}
 use Rattle.pairs.specs.Pulls.{pull_rules, took_commit, took_of, pulled_log, pulled_of}
 use Rattle.pairs.specs.RollsBack.{common, roll_rules, rolled_of}
@@ -175,9 +175,9 @@ module _ {n i : ℕ} {s : Server} (h : ServerSound n i s) where
       }
 
   -- b is its source
-  pub sourced_sound : (b : ℕ) → b < n → b ≢ i → n ≤ most_servers → ServerSound n i (with_mail s (with_source s.mail (b + 1)))
+  pub sourced_sound : (b : ℕ) → b < n → b ≢ i → n ≤ most_servers → ServerSound n i (with_mail s (with_source s.mail (Some b)))
   sourced_sound b l ne few =
-      mail_set h (fits_sourced h.fits.mail (omega arith)) (sourced_good h.mailed (rw add-one (source_of l ne)))
+      mail_set h (fits_sourced h.fits.mail (omega arith)) (sourced_good h.mailed (source_of l ne))
 
 -- ---- kinds that look at another server
 

@@ -1,4 +1,5 @@
 -- The four wrong programs that 01 names are shut out: each differs from the step, at a record and a step that are given. Assumes nothing.
+use Rattle.std.proofs.Common.{Ok, Err}
 use mathlib.Core.Path.{◌≡◌, refl, ap, sym, ◌∙◌}
 use mathlib.Core.Bool.{Bool, true, false, true≢false}
 use Prim.Native.Nat.{ℕ}
@@ -26,9 +27,7 @@ use Rattle.steps.specs.declared.Outcome.{Outcome}
 use Rattle.steps.specs.declared.Refusal.{Refusal}
 use Rattle.steps.specs.declared.Step.{Step}
 use Rattle.steps.specs.declared.Step.TheVariants.{Elect, Writes, LocalRead}
-use Rattle.steps.specs.declared.Telling.{Telling}
-use Rattle.steps.specs.declared.Telling.TheVariants as T
-use Rattle.steps.specs.Answers.{telling_of, is_refused}
+use Rattle.steps.specs.Answers.{telling_of, is_refused, Telling, numbers}
 use Rattle.singles.specs.Appends.{stamped_of}
 use Rattle.wholes.specs.Elects.{not_behind, may_vote, all_may_vote, are_voters}
 use Rattle.rules.specs.Rules.{delivered, row_of, core_of, step_of}
@@ -95,19 +94,23 @@ unvarying_differs p t h = go t refl
     line : (s : Step) (a : Answer) → (step_of written s).answer ≡ a → p written s ≡ step_of written s → t ≡ telling_of a
     line s a is e = sym (h written s) ∙ ap (λ (o : Outcome). telling_of o.answer) e ∙ ap telling_of is
 
-    at_written : (t ≡ T.Numbers 41 0 written_at → ⊥) → Differs p
+    at_written : (t ≡ numbers 41 0 written_at → ⊥) → Differs p
     at_written other = record { from = written; takes = reading 5; differs = λ e. other (line (reading 5) (A.Value 41 written_at) runs.reads_written e) }
 
-    at_none : (t ≡ T.Numbers 0 0 written_at → ⊥) → Differs p
+    at_none : (t ≡ numbers 0 0 written_at → ⊥) → Differs p
     at_none other = record { from = written; takes = reading 6; differs = λ e. other (line (reading 6) (A.Value 0 written_at) runs.reads_none e) }
 
-    number : (b : Bool) (n term : ℕ) (time : Time) → eqb n 41 ≡ b → t ≡ T.Numbers n term time → Differs p
-    number true n term time q is = let z = eqb-true n 41 q in at_none (λ e. let y : n ≡ 0 = cc in omega arith)
-    number false n term time q is = at_written (λ e. let y : n ≡ 41 = cc in eqb-false n 41 q y)
+    number_in : Telling → ℕ
+    number_in (Ok x) = x.number
+    number_in (Err r) = 0
+
+    number : (b : Bool) (n term : ℕ) (time : Time) → eqb n 41 ≡ b → t ≡ numbers n term time → Differs p
+    number true n term time q is = let z = eqb-true n 41 q in at_none (λ e. let y : n ≡ 0 = ap number_in (sym is ∙ e) in omega arith)
+    number false n term time q is = at_written (λ e. let y : n ≡ 41 = ap number_in (sym is ∙ e) in eqb-false n 41 q y)
 
     go : (u : Telling) → t ≡ u → Differs p
-    go (T.Numbers n term time) is = number (eqb n 41) n term time refl is
-    go (T.Refusing r) is = at_written (λ e. let z : ◌≡◌ {A = ℕ} 0 1 = cc in omega arith)
+    go (Ok x) is = number (eqb x.number 41) x.number x.term x.time refl is
+    go (Err r) is = at_written (λ e. let z : ◌≡◌ {A = ℕ} 0 1 = cc in omega arith)
 
 -- one that leaves every well-formed record as it is, whatever it does with others: the election changes the fresh cluster
 pub echoing_differs : (p : Program) → ((c : Cluster) (s : Step) → well_formed c ≡ true → (p c s).cluster ≡ c) → Differs p

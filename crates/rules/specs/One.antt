@@ -5,13 +5,12 @@ use Rattle.cluster.specs.declared.Cluster.{Cluster}
 use Rattle.cluster.specs.declared.Server.{Server}
 use Rattle.steps.specs.declared.Step.{Step}
 use Rattle.steps.specs.declared.Step.TheVariants.{Start, Elect, StepDown, Hears, Pulls, RollsBack, Writes, Advances, WallClock, Restarts, LocalRead, MajorityRead, Acknowledged, ClocksAgree, WritesNothing, NewestRead, TakesReport}
-use Rattle.steps.specs.declared.Sends.TheVariants.{Nothing}
 use Rattle.steps.specs.declared.Stepped.{Stepped}
 use Rattle.steps.specs.declared.Outcome.{Outcome}
 use Rattle.steps.specs.declared.Answer.TheVariants.{Done}
 use Rattle.cluster.specs.Servers.{server_count, server_at}
 use Rattle.steps.specs.Refusals.{decided}
-use Rattle.steps.specs.Answers.{refusing_all}
+use Rattle.steps.specs.Answers.{refusing_all, answering}
 use Rattle.rules.specs.Rules.{in_range, both_in_range, put_back}
 use Rattle.pairs.specs.Hears.{hears_of}
 use Rattle.pairs.specs.Pulls.{pulls_of}
@@ -29,7 +28,7 @@ use Rattle.singles.specs.TakesReport.{takes_report_of}
 
 -- a step of the whole cluster leaves a server as it is
 abbrev pub untouched_of : Server → Stepped
-untouched_of s = record { server = s; answer = Done; sends = Nothing }
+untouched_of s = answering s Done
 
 unfoldable pub one_of : ℕ → Server → Server → Step → Stepped
 one_of size s t (Start n f) = untouched_of s

@@ -1,5 +1,5 @@
 -- 01's table of steps with 02's: for each kind its rules in order, what it gives where none is broken, and the step over any record. Assumes nothing.
-use Rattle.std.specs.Prelude.{[], ◌∷◌, Bool, cond, not, ◌||◌, ℕ, eqb, ltb}
+use Rattle.std.specs.Prelude.{[], ◌∷◌, Bool, cond, not, ◌||◌, ℕ, eqb, ltb, Option, None, Some}
 use Rattle.mail.specs.Mails.{received}
 use Rattle.cluster.specs.declared.Cluster.{Cluster}
 use Rattle.cluster.specs.Servers.{server_count, server_at, with_mail, with_server}
@@ -8,8 +8,7 @@ use Rattle.steps.specs.declared.Step.{Step}
 use Rattle.steps.specs.declared.Step.TheVariants.{Start, Elect, StepDown, Hears, Pulls, RollsBack, Writes, Advances, WallClock, Restarts, LocalRead, MajorityRead, Acknowledged, ClocksAgree, WritesNothing, NewestRead, TakesReport}
 use Rattle.steps.specs.declared.Refusal.{Refusal}
 use Rattle.steps.specs.declared.Refusal.TheVariants.{IllFormed, OutOfRange}
-use Rattle.steps.specs.declared.Sends.{Sends}
-use Rattle.steps.specs.declared.Sends.TheVariants.{Nothing, To}
+use Rattle.steps.specs.declared.Sent.{Sent}
 use Rattle.steps.specs.declared.Stepped.{Stepped}
 use Rattle.steps.specs.declared.Outcome.{Outcome}
 use Rattle.steps.specs.Fields.{frame_for}
@@ -42,9 +41,9 @@ abbrev pub both_in_range : Cluster → ℕ → ℕ → Rules → Rules
 both_in_range c a b rs = in_range c a ∷ in_range c b ∷ (not (eqb a b), OutOfRange) ∷ rs
 
 -- what a step sends: a report to the end of a server's queue
-unfoldable pub delivered : Cluster → Sends → Cluster
-delivered c Nothing = c
-delivered c (To b r) = with_server c b (with_mail (server_at c b) (received (server_at c b).mail r))
+unfoldable pub delivered : Cluster → Option Sent → Cluster
+delivered c None = c
+delivered c (Some t) = with_server c t.to (with_mail (server_at c t.to) (received (server_at c t.to).mail t.report))
 
 -- server a as a step left it, what it sends delivered, the others unchanged, and its answer
 abbrev pub put_back : Cluster → ℕ → Stepped → Outcome

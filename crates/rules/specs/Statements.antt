@@ -1,5 +1,5 @@
 -- The words of what is claimed of the step: why it refuses, which servers it touches, and which programs differ from it. Assumes nothing.
-use Rattle.std.specs.Prelude.{◌≡◌, Bool, true, false, cond, ◌||◌, ℕ, suc, eqb, ltb}
+use Rattle.std.specs.Prelude.{◌≡◌, Bool, true, false, cond, ◌||◌, ℕ, eqb, ltb, Option, Some, None}
 use Rattle.cluster.specs.declared.Cluster.{Cluster}
 use Rattle.cluster.specs.Servers.{server_at}
 use Rattle.cluster.specs.Sets.{member}
@@ -24,6 +24,11 @@ pub data Why (c : Cluster) (s : Step) : Refusal → Type 0 where
 
 -- ---- which servers a step touches
 
+-- the source is server i
+abbrev pub is_source : Option ℕ → ℕ → Bool
+is_source None i = false
+is_source (Some b) i = eqb i b
+
 -- the server that it names and the one that it sends a report to, a set's members, every counted server; a step that only asks changes none
 abbrev pub touches : Cluster → Step → ℕ → Bool
 touches c (Start n f) i = true
@@ -42,7 +47,7 @@ touches c (Acknowledged a k n term) i = false
 touches c ClocksAgree i = ltb i c.count
 touches c (WritesNothing a) i = eqb i a
 touches c (NewestRead a key n term) i = false
-touches c (TakesReport a) i = eqb i a || eqb (suc i) (server_at c a).mail.source
+touches c (TakesReport a) i = eqb i a || is_source (server_at c a).mail.source i
 
 -- ---- what a program is held to
 

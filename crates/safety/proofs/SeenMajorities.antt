@@ -21,10 +21,10 @@ use Rattle.cluster.specs.Servers.{server_count, server_at, voted_of, elected_all
 use Rattle.cluster.specs.Sets.{member, bits, votes, voters, most_of}
 use Rattle.cluster.proofs.Changed.{changed_at}
 use Rattle.cluster.proofs.Masks.{within_member, voters_members}
-use Rattle.steps.specs.declared.Sends.TheVariants.{Nothing}
 use Rattle.steps.specs.declared.Stepped.{Stepped}
 use Rattle.steps.specs.declared.Answer.TheVariants.{Reached}
 use Rattle.steps.specs.declared.Step.TheVariants.{Elect, Advances}
+use Rattle.steps.specs.Answers.{answering}
 use Rattle.wholes.specs.Elects.{not_behind, may_vote, all_may_vote, new_term}
 use Rattle.wholes.proofs.Voting.{taking}
 use Rattle.counts.specs.Advances.{backs, backers, passes, highest_passing, reached_by, committed_of}
@@ -158,7 +158,7 @@ module _ {𝓠 : Quorums} (c : Cluster) (f : Fits c) (most : (P : ℕ → Type 0
       let s = server_at c a in
       let n = reached_by c a in
       let p = passing {f = c.followers} (highest_passes (passes (server_count c) c.followers s a) (length_of s.log) (leb-true 1 n h.1.1.0)) in
-      let o : Stepped = record { server = committed_of s n; answer = Reached n; sends = Nothing } in
+      let o : Stepped = answering (committed_of s n) (Reached n) in
       let q = here c f a h.0 o in
       T.passes a n
       (record {

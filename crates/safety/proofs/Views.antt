@@ -1,6 +1,7 @@
 -- Laws of the view: one server replaced, a report delivered, all servers changed, the fresh cluster, and what the view's entries say of the
 -- record's.
 -- Assumes nothing.
+use Rattle.std.proofs.Common.{Option, None, Some}
 use mathlib.Core.Path.{◌≡◌, refl, ap, sym, ◌∙◌, subst}
 use mathlib.Core.Bool.{true}
 use mathlib.Core.Logic.{⊎_elim, by_cases}
@@ -34,8 +35,7 @@ use Rattle.mail.proofs.Held.{zero_note_at, zero_report_at}
 use Rattle.cluster.specs.Servers.{most_servers, zero_server, fresh_server, past_server, zero_cluster, started_of, fresh_cluster, server_count, server_at, with_mail, with_server}
 use Rattle.cluster.proofs.Fresh.{fresh_at, fresh_past}
 use Rattle.cluster.proofs.Changed.{replaced_here, replaced_others}
-use Rattle.steps.specs.declared.Sends.{Sends}
-use Rattle.steps.specs.declared.Sends.TheVariants.{Nothing, To}
+use Rattle.steps.specs.declared.Sent.{Sent}
 use Rattle.steps.specs.declared.Stepped.{Stepped}
 use Rattle.rules.specs.Rules.{delivered, put_back}
 use Rattle.rules.proofs.Others.{put_either, changed_either}
@@ -54,11 +54,11 @@ pub in_range_lem : (c : Cluster) (a : ℕ) → ltb a (server_count c) ≡ true �
 in_range_lem c a l = omega (arith, ltb-true a (server_count c) l)
 
 -- a delivery changes a queue alone, which no server shows
-delivered_view : (c : Cluster) (x : Sends) (i : ℕ) → view (delivered c x) i ≡ view c i
+delivered_view : (c : Cluster) (x : Option Sent) (i : ℕ) → view (delivered c x) i ≡ view c i
 unfolding delivered
-delivered_view c Nothing i = refl
-delivered_view c (To b r) i =
-    put_either (λ s. seen_server s ≡ view c i) c b (with_mail (server_at c b) (received (server_at c b).mail r)) i (λ e. ap (view c) (sym e)) refl
+delivered_view c None i = refl
+delivered_view c (Some t) i =
+    put_either (λ s. seen_server s ≡ view c i) c t.to (with_mail (server_at c t.to) (received (server_at c t.to).mail t.report)) i (λ e. ap (view c) (sym e)) refl
 
 -- server a as a step left it, whatever that sends
 module _ (c : Cluster) (f : Fits c) (a : ℕ) (l : ltb a (server_count c) ≡ true) (o : Stepped) where

@@ -1,4 +1,5 @@
 -- The frames of a record that fits and is well formed: each is of bytes, and their text is no longer than the longest. Assumes nothing.
+use Rattle.std.proofs.Common.{Option, None, Some}
 use mathlib.Core.Path.{◌≡◌, refl, ap}
 use mathlib.Core.Bool.{Bool, true, false, cond, not}
 use mathlib.Core.List.{List, [], ◌∷◌, ◌++◌, map}
@@ -24,7 +25,7 @@ use Rattle.mail.specs.Queues.{queue_limit}
 use Rattle.mail.specs.Mails.{note_slots}
 use Rattle.mail.specs.Order.{is_unused, notes_ok, queue_ok, mail_ok}
 use Rattle.mail.specs.Ranges.{FitsNote}
-use Rattle.mail.proofs.Good.{source_good}
+use Rattle.mail.proofs.Good.{SourceGood, source_good}
 use Rattle.cluster.specs.declared.Server.{Server}
 use Rattle.cluster.specs.declared.Cluster.{Cluster}
 use Rattle.cluster.specs.Servers.{most_servers, past_server, server_at}
@@ -34,7 +35,7 @@ use Rattle.cluster.proofs.Good.{size_good}
 use Rattle.lines.specs.Texts.{lines}
 use Rattle.saved.specs.declared.Sort.{Sort}
 use Rattle.saved.specs.declared.Sort.TheVariants as S
-use Rattle.saved.specs.Layout.{Widths, frame, size_of, sort_number, first_frame, server_frame, entry_frame, note_frame, report_frame}
+use Rattle.saved.specs.Layout.{Widths, frame, size_of, sort_number, source_number, first_frame, server_frame, entry_frame, note_frame, report_frame}
 use Rattle.saved.specs.Editions.{Edition, widths1, widths3, editions, edition_numbered}
 use Rattle.saved.specs.Saved.{note_frames, queued_reports, server_frames, all_frames, frames_of, text_of, saved_as}
 use Rattle.saved.specs.Written.{Small, line_length, longest_server, longest}
@@ -135,6 +136,10 @@ server_length {s} k slots =
 
 -- ---- a well-formed record
 
+source_small : {n i : ℕ} (source : Option ℕ) → n ≤ most_servers → SourceGood n i source → source_number source ≤ most_servers
+source_small None seven g = omega arith
+source_small (Some b) seven g = omega (arith, g.within)
+
 counted_small : (n i : ℕ) {s : Server} → n ≤ most_servers → counted_ok s ≡ true → mail_ok n i s.mail ≡ true → Small s
 unfolding counted_ok log_ok numbers_ok mail_ok queue_ok
 counted_small n i {s} seven h m =
@@ -145,7 +150,7 @@ counted_small n i {s} seven h m =
     record {
       entries = short;
       reports = leb-true s.mail.queue.len queue_limit (and_left _ _ (and_left _ _ told));
-      source = omega (arith, (source_good {i = i} (and_right (queue_ok n s.mail.queue) _ told)).within);
+      source = source_small s.mail.source seven (source_good {i = i} s.mail.source (and_right (queue_ok n s.mail.queue) _ told));
       commit = omega (arith, leb-true s.head.commit (length_of s.log) (and_left _ _ numbers), length-take s.log.len s.log.entries);
     }
 

@@ -2,6 +2,7 @@
 pub mod Texts
 pub mod Fields
 pub mod Lawful
+pub mod Listed
 pub mod First
 pub mod Frames
 pub mod Allowed

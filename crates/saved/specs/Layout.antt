@@ -1,6 +1,6 @@
 -- The frames of a saved form, byte by byte, as docs/SAVED.md draws them: a byte that says which sort a frame is, and then its numbers in order, in
 -- fields of the widths that an edition gives them. Assumes nothing.
-use Rattle.std.specs.Prelude.{cond, not, List, [], ◌∷◌, ℕ, suc, ◌+◌}
+use Rattle.std.specs.Prelude.{◌≡◌, ◌<◌, cond, not, List, [], ◌∷◌, ℕ, suc, ◌+◌, Option, Some, None, Result, MatchResult}
 use Rattle.base.specs.Numbers.{count}
 use Rattle.words.specs.Words.{high_of, low_of, byte_at, word_at}
 use Rattle.server_log.specs.declared.Entry.{Entry}
@@ -11,6 +11,7 @@ use Rattle.mail.specs.Reports.{note_of}
 use Rattle.mail.specs.Mails.{note_slots, note_at}
 use Rattle.mail.specs.Order.{is_unused}
 use Rattle.cluster.specs.declared.Server.{Server}
+use Rattle.saved.specs.declared.NoSort.{NoSort}
 use Rattle.saved.specs.declared.Sort.{Sort}
 use Rattle.saved.specs.declared.Sort.TheVariants as S
 
@@ -52,6 +53,10 @@ sort_number S.Entry = 2
 sort_number S.Note = 3
 sort_number S.Report = 4
 
+-- the sort that has the number n, or n itself where none has it
+abbrev pub NamesSort : ℕ → Result Sort NoSort → Type 0
+NamesSort n named = MatchResult named (λ s. sort_number s ≡ n) (λ e. (e.0 ≡ n) × (4 < n))
+
 abbrev pub frame : Widths → Sort → List ℕ → List ℕ
 frame w s ns = sort_number s ∷ field_bytes (w s) ns
 
@@ -76,10 +81,15 @@ first_frame w edition size followers = frame w S.First (edition ∷ size ∷ fol
 abbrev pub used_notes : Mail → ℕ
 used_notes m = count note_slots (λ i. not (is_unused (note_at m i)))
 
+-- a source is 0 for none, and n + 1 for server n
+abbrev pub source_number : Option ℕ → ℕ
+source_number None = 0
+source_number (Some n) = suc n
+
 -- what follows it: entries, used notes, reports; then the source, the role (1 is primary), term, commit point, wall clock, cluster time
 abbrev pub server_numbers : Server → List ℕ
 server_numbers s =
-    s.log.len ∷ used_notes s.mail ∷ s.mail.queue.len ∷ s.mail.source ∷ cond s.head.primary 1 0
+    s.log.len ∷ used_notes s.mail ∷ s.mail.queue.len ∷ source_number s.mail.source ∷ cond s.head.primary 1 0
     ∷ s.head.term ∷ s.head.commit ∷ s.head.wall ∷ s.head.time.p ∷ s.head.time.l ∷ []
 
 abbrev pub server_frame : Widths → Server → List ℕ

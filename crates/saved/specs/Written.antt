@@ -1,5 +1,5 @@
 -- How a saved form is written into a buffer: frames by value, and what `save` gives and leaves. Assumes nothing.
-use Rattle.std.specs.Prelude.{cond, ◌&&◌, List, ℕ, ◌+◌, ◌*◌, ◌≤◌, ◌≡◌, ltb, length}
+use Rattle.std.specs.Prelude.{cond, ◌&&◌, List, ℕ, ◌+◌, ◌*◌, ◌≤◌, ◌≡◌, ltb, length, Result, Ok, Err}
 use Rattle.hex_text.specs.Lines.{chars}
 use Rattle.server_log.specs.Logs.{log_limit}
 use Rattle.mail.specs.Queues.{queue_limit}
@@ -12,9 +12,9 @@ use Rattle.steps.specs.declared.Refusal.TheVariants.{IllFormed, OutOfRange}
 use Rattle.lines.specs.Texts.{placed}
 use Rattle.saved.specs.declared.Sort.{Sort}
 use Rattle.saved.specs.declared.Sort.TheVariants as S
-use Rattle.saved.specs.declared.Saved.{Saved}
-use Rattle.saved.specs.declared.Saved.TheVariants.{Text, NoRoom, Refused}
-use Rattle.saved.specs.Layout.{size_of}
+use Rattle.saved.specs.declared.NotSaved.{NotSaved}
+use Rattle.saved.specs.declared.NotSaved.TheVariants.{NoRoom, Refused}
+use Rattle.saved.specs.Layout.{size_of, source_number}
 use Rattle.saved.specs.Editions.{editions, newest, is_known, edition_numbered, has_form}
 use Rattle.saved.specs.Saved.{text_of, saved_as, save_of}
 
@@ -32,7 +32,7 @@ pub record Written (out₀ : List ℕ) (at₀ : ℕ) (out : List ℕ) (at : ℕ)
 pub record Small (s : Server) : Type 0 where
   pub entries : s.log.len ≤ log_limit
   pub reports : s.mail.queue.len ≤ queue_limit
-  pub source : s.mail.source ≤ most_servers
+  pub source : source_number s.mail.source ≤ most_servers
   pub commit : s.head.commit ≤ log_limit
 
 -- how long a frame's line is, and the longest saved forms of a server and of a record
@@ -47,19 +47,19 @@ longest = line_length S.First + most_servers * longest_server
 
 -- in the edition of a number: one that isn't known is refused with 3, a record that it has no form for with 2; a buffer that hasn't room for the
 -- longest is left as it is
-unfoldable pub saved_as_of : ℕ → Cluster → ℕ → Saved
+unfoldable pub saved_as_of : ℕ → Cluster → ℕ → Result ℕ NotSaved
 saved_as_of n c room =
     cond (is_known editions n)
-    (cond (has_form (edition_numbered editions n) c) (cond (ltb room longest) NoRoom (Text (length (saved_as (edition_numbered editions n) c)))) (Refused IllFormed))
-    (Refused OutOfRange)
+    (cond (has_form (edition_numbered editions n) c) (cond (ltb room longest) (Err NoRoom) (Ok (length (saved_as (edition_numbered editions n) c)))) (Err (Refused IllFormed)))
+    (Err (Refused OutOfRange))
 
 unfoldable pub saved_as_out : ℕ → Cluster → List ℕ → List ℕ
 saved_as_out n c out =
     cond (is_known editions n && has_form (edition_numbered editions n) c) (cond (ltb (length out) longest) out (placed out 0 (saved_as (edition_numbered editions n) c))) out
 
 -- in the newest, which has a form for every well-formed record
-unfoldable pub saved_of : Cluster → ℕ → Saved
-saved_of c room = cond (well_formed c) (cond (ltb room longest) NoRoom (Text (length (save_of c)))) (Refused IllFormed)
+unfoldable pub saved_of : Cluster → ℕ → Result ℕ NotSaved
+saved_of c room = cond (well_formed c) (cond (ltb room longest) (Err NoRoom) (Ok (length (save_of c)))) (Err (Refused IllFormed))
 
 unfoldable pub saved_out : Cluster → List ℕ → List ℕ
 saved_out c out = cond (well_formed c) (cond (ltb (length out) longest) out (placed out 0 (save_of c))) out

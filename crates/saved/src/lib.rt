@@ -7,7 +7,7 @@ ghost use Rattle.server_log.specs.Logs.{log_limit, kept};
 ghost use Rattle.mail.specs.Queues.{queue_limit};
 ghost use Rattle.cluster.specs.Servers.{most_servers};
 ghost use Rattle.cluster.specs.WellFormed.{well_formed};
-ghost use Rattle.saved.specs.Layout.{field_bytes, sort_number, size_of, used_notes, first_frame, server_frame, entry_frame, told_numbers, note_frame, report_frame};
+ghost use Rattle.saved.specs.Layout.{field_bytes, sort_number, NamesSort, size_of, used_notes, source_number, first_frame, server_frame, entry_frame, told_numbers, note_frame, report_frame};
 ghost use Rattle.saved.specs.Editions.{widths1, widths3, editions, is_known, edition_numbered, notes_within, reports_within, allows_server, allows_followers, allows, has_form, limits_of};
 ghost use Rattle.saved.specs.Saved.{note_frames, queued_reports, server_frames, all_frames, text_of};
 ghost use Rattle.saved.specs.Written.{Written, Small, longest_server, saved_as_of, saved_as_out, saved_of, saved_out};
@@ -55,24 +55,59 @@ const LONGEST_SERVER: usize = SERVER_LINE
 pub const LONGEST: usize = FIRST_LINE + cluster::MOST_SERVERS * LONGEST_SERVER;
 
 // The sorts' numbers.
-pub const FIRST: u8 = 0;
+const FIRST: u8 = 0;
 
-pub const SERVER: u8 = 1;
+const SERVER: u8 = 1;
 
-pub const ENTRY: u8 = 2;
+const ENTRY: u8 = 2;
 
-pub const NOTE: u8 = 3;
+const NOTE: u8 = 3;
 
-pub const REPORT: u8 = 4;
+const REPORT: u8 = 4;
 
 // The sorts of frames.
-#[derive(Clone, Copy)]
+#[derive(Clone, Copy, PartialEq, Eq)]
 pub enum Sort {
     First,
     Server,
     Entry,
     Note,
     Report,
+}
+
+// A byte that is no sort's number.
+#[derive(Clone, Copy, PartialEq, Eq)]
+pub struct NoSort(pub u8);
+
+impl From<Sort> for u8 {
+    ghost from_gives = { λ s n. n ≡ sort_number s };
+
+    fn from(s: Sort) -> u8 {
+        match s {
+            Sort::First => FIRST,
+            Sort::Server => SERVER,
+            Sort::Entry => ENTRY,
+            Sort::Note => NOTE,
+            Sort::Report => REPORT,
+        }
+    }
+}
+
+impl TryFrom<u8> for Sort {
+    type Error = NoSort;
+
+    ghost try_from_gives = { NamesSort };
+
+    fn try_from(n: u8) -> Result<Self, NoSort> {
+        match n {
+            FIRST => Ok(Sort::First),
+            SERVER => Ok(Sort::Server),
+            ENTRY => Ok(Sort::Entry),
+            NOTE => Ok(Sort::Note),
+            REPORT => Ok(Sort::Report),
+            _ => Err(NoSort(n)),
+        }
+    }
 }
 
 // What the records of an edition may hold: entries in a log, lengths in notes and reports, and whether followers.
@@ -83,10 +118,9 @@ pub struct Limits {
     pub followers: bool,
 }
 
-// What a saving gives: a text of so many bytes, or why there is none.
-#[derive(Clone, Copy)]
-pub enum Saved {
-    Text(usize),
+// Why a saving gives no text: the buffer is too short, or the record is refused.
+#[derive(Clone, Copy, PartialEq, Eq)]
+pub enum NotSaved {
     NoRoom,
     Refused(Refusal),
 }
@@ -94,26 +128,14 @@ pub enum Saved {
 pub fn sort_number(s: Sort) -> u8
     ensures { result ≡ sort_number s }
 {
-    match s {
-        Sort::First => FIRST,
-        Sort::Server => SERVER,
-        Sort::Entry => ENTRY,
-        Sort::Note => NOTE,
-        Sort::Report => REPORT,
-    }
+    u8::from(s)
 }
 
 // Whether a number is that of an edition that can be read and written.
 pub fn is_known(edition: u8) -> bool
     ensures { result ≡ is_known editions edition }
 {
-    if edition == EDITION_1 {
-        return true;
-    }
-    if edition == EDITION_2 {
-        return true;
-    }
-    edition == EDITION
+    matches!(edition, EDITION_1 | EDITION_2 | EDITION)
 }
 
 // What the records of an edition may hold; of the newest where there is none of that number.
@@ -139,94 +161,58 @@ pub fn first_bytes(edition: u8) -> usize
     ensures { result ≡ size_of (edition_numbered editions edition).widths S.First }
 {
     if limits_of(edition).followers {
-        return FIRST_BYTES;
+        FIRST_BYTES
+    } else {
+        FIRST_BYTES - 1
     }
-    FIRST_BYTES - 1
 }
 
 // Whether no note is of a greater length.
 fn notes_within(m: Mail, most: usize) -> bool
     ensures { result ≡ notes_within most m }
 {
-    let mut i = 0;
-    while i < mail::NOTE_SLOTS {
-        let n = m.notes[i];
-        if most < n.len as usize {
-            return false;
-        }
-        i += 1;
-    }
-    true
+    m.notes.iter().all(|n| usize::from(n.len) <= most)
 }
 
 // Whether no report is of a greater length.
+// Kept: beside `notes_within`, since the one line of each is what a function of both would take.
 fn reports_within(q: Queue, most: usize) -> bool
     ensures { result ≡ reports_within most q }
 {
-    let mut i = 0;
-    while i < mail::QUEUE_LIMIT {
-        let r = q.reports[i];
-        if most < r.len as usize {
-            return false;
-        }
-        i += 1;
-    }
-    true
+    q.reports.iter().all(|r| usize::from(r.len) <= most)
 }
 
 // Whether a server has no more than the edition allows.
+#[tactic(auto, unfolding(crate::specs::Editions::allows_server))]
 fn allows_server(edition: u8, s: Server) -> bool
     ensures { result ≡ allows_server (edition_numbered editions edition) s }
 {
     let most = limits_of(edition);
-    let g = s.log;
-    let m = s.mail;
-    let q = m.queue;
-    if most.entries < server_log::length_of(g) {
-        return false;
-    }
-    if !notes_within(m, most.positions) {
-        return false;
-    }
-    reports_within(q, most.positions)
+    server_log::length_of(s.log) <= most.entries
+        && notes_within(s.mail, most.positions)
+        && reports_within(s.mail.queue, most.positions)
 }
 
 // Whether there are no followers, or the edition has them.
 fn allows_followers(edition: u8, followers: u8) -> bool
     ensures { result ≡ allows_followers (edition_numbered editions edition).widths followers }
 {
-    if limits_of(edition).followers {
-        return true;
-    }
-    followers == 0
+    limits_of(edition).followers || followers == 0
 }
 
 // Whether a record has no more than the edition allows.
 pub fn allows(edition: u8, c: Cluster) -> bool
     ensures { result ≡ allows (edition_numbered editions edition) c }
 {
-    if !allows_followers(edition, c.followers) {
-        return false;
-    }
-    let mut i = 0;
-    while i < cluster::MOST_SERVERS {
-        let s = c.servers[i];
-        if !allows_server(edition, s) {
-            return false;
-        }
-        i += 1;
-    }
-    true
+    allows_followers(edition, c.followers) && c.servers.iter().all(|s| allows_server(edition, *s))
 }
 
 // Whether the edition has a form for a record.
+#[tactic(auto, unfolding(crate::specs::Editions::has_form))]
 fn has_form(edition: u8, c: Cluster) -> bool
     ensures { result ≡ has_form (edition_numbered editions edition) c }
 {
-    if !cluster::well_formed(c) {
-        return false;
-    }
-    allows(edition, c)
+    cluster::well_formed(c) && allows(edition, c)
 }
 
 // The edition, the server count and the followers.
@@ -238,19 +224,28 @@ fn first_frame(edition: u8, size: usize, followers: u8) -> [u8; FIRST_BYTES]
 }
 
 // How many notes are used.
+#[tactic(auto, using(base::proofs::Counting::count_yes, base::proofs::Counting::count_no, base::proofs::Counting::count_le, base::proofs::Facts::mapped_long))]
 fn used_notes(m: Mail) -> u8
     ensures { result ≡ used_notes m }
 {
     let mut used: u8 = 0;
-    let mut i = 0;
-    while i < mail::NOTE_SLOTS {
-        let n = m.notes[i];
-        if !mail::is_unused(n) {
+    for n in &m.notes {
+        if !mail::is_unused(*n) {
             used += 1;
         }
-        i += 1;
     }
     used
+}
+
+// 0 for none, and n + 1 for server n.
+fn source_number(source: Option<usize>) -> u8
+    requires { source_number source < byte }
+    ensures { result ≡ source_number source }
+{
+    match source {
+        Some(n) => n as u8 + 1,
+        None => 0,
+    }
 }
 
 // What follows a server's frame, and then what the server keeps beside its log and its mail.
@@ -268,8 +263,8 @@ fn server_frame(s: Server) -> [u8; SERVER_BYTES]
         low(len),
         used_notes(m),
         m.queue.len as u8,
-        m.source as u8,
-        h.primary as u8,
+        source_number(m.source),
+        u8::from(h.primary),
         high(h.term),
         low(h.term),
         high(commit),
@@ -331,6 +326,7 @@ fn report_frame(r: Report) -> [u8; TOLD_BYTES]
 }
 
 // A frame's characters and a line feed, written at a place of the buffer; the place after them.
+// Kept: a writer that holds buffer and place would say `Written w.old.out w.old.at w.new.out w.new.at` in the same six clauses, none shorter.
 fn put_line(out: &mut [u8], at: usize, frame: &[u8]) -> usize
     requires { at + length (text_of (frame.now ∷ [])) ≤ length out.old }
     ensures { Written out.old at out.new result (frame.now ∷ []) }
@@ -347,13 +343,10 @@ fn put_entries(out: &mut [u8], at: usize, g: Log) -> usize
     requires g_in_bounds { at + length (text_of (map (entry_frame widths1) (kept g))) ≤ length out.old }
     ensures { Written out.old at out.new result (map (entry_frame widths1) (kept g)) }
 {
-    let len = g.len;
     let mut w = at;
-    let mut i = 0;
-    while i < len {
+    for i in 0..g.len {
         let f = entry_frame(g.entries[i]);
         w = put_line(out, w, &f);
-        i += 1;
     }
     w
 }
@@ -377,27 +370,23 @@ fn put_notes(out: &mut [u8], at: usize, m: Mail) -> usize
     ensures { Written out.old at out.new result (note_frames widths1 0 m.notes) }
 {
     let mut w = at;
-    let mut i = 0;
-    while i < mail::NOTE_SLOTS {
+    for i in 0..mail::NOTE_SLOTS {
         w = put_note(out, w, i, m.notes[i]);
-        i += 1;
     }
     w
 }
 
 // A queue's reports, oldest first.
+// Kept: it differs from `put_entries` in the frame; one of both would take that as a closure, with clauses for what the closure gives, to save two lines.
 fn put_reports(out: &mut [u8], at: usize, q: Queue) -> usize
     requires len_le_queue_limit { q.len ≤ queue_limit }
     requires q_in_bounds { at + length (text_of (map (report_frame widths1) (queued_reports q))) ≤ length out.old }
     ensures { Written out.old at out.new result (map (report_frame widths1) (queued_reports q)) }
 {
-    let len = q.len;
     let mut w = at;
-    let mut i = 0;
-    while i < len {
+    for i in 0..q.len {
         let f = report_frame(q.reports[i]);
         w = put_line(out, w, &f);
-        i += 1;
     }
     w
 }
@@ -425,40 +414,37 @@ fn put_servers(out: &mut [u8], at: usize, c: Cluster) -> usize
     requires longest_server_in_bounds { at + most_servers * longest_server ≤ length out.old }
     ensures { Written out.old at out.new result (all_frames widths1 (take c.count c.servers)) }
 {
-    let count = c.count;
     let mut w = at;
-    let mut i = 0;
-    while i < count {
+    for i in 0..c.count {
         w = put_server(out, w, c.servers[i]);
-        i += 1;
     }
     w
 }
 
-// Writes the saved form of a record in an edition at the buffer's beginning, where the edition is known and has a form for it, and the longest has
+// Writes the saved form of a record in an edition at the buffer's beginning, and gives its length, where the edition is known and has a form for it, and the longest has
 // room.
-pub fn save_as(edition: u8, c: Cluster, out: &mut [u8]) -> Saved
+pub fn save_as(edition: u8, c: Cluster, out: &mut [u8]) -> Result<usize, NotSaved>
     ensures result { result ≡ saved_as_of edition c (length out.old) }
     ensures output { out.new ≡ saved_as_out edition c out.old }
 {
     if !is_known(edition) {
-        return Saved::Refused(Refusal::OutOfRange);
+        return Err(NotSaved::Refused(Refusal::OutOfRange));
     }
     if !has_form(edition, c) {
-        return Saved::Refused(Refusal::IllFormed);
+        return Err(NotSaved::Refused(Refusal::IllFormed));
     }
     if out.len() < LONGEST {
-        return Saved::NoRoom;
+        return Err(NotSaved::NoRoom);
     }
     let f = first_frame(edition, c.count, c.followers);
     let n = first_bytes(edition);
     let past = put_line(out, 0, &f[..n]);
     let end = put_servers(out, past, c);
-    Saved::Text(end)
+    Ok(end)
 }
 
 // The same in the newest edition, which has a form for every well-formed record.
-pub fn save(c: Cluster, out: &mut [u8]) -> Saved
+pub fn save(c: Cluster, out: &mut [u8]) -> Result<usize, NotSaved>
     ensures result { result ≡ saved_of c (length out.old) }
     ensures output { out.new ≡ saved_out c out.old }
 {

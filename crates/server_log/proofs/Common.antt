@@ -2,7 +2,9 @@
 use mathlib.Core.Path.{◌≡◌, refl, ap, sym, ◌∙◌}
 use mathlib.Core.List.{List, [], ◌∷◌}
 use mathlib.Core.Bool.{Bool, true, false, cond}
-use Prim.Native.Nat.{ℕ, zero, suc, ◌<◌, ◌≤◌, ◌+◌}
+use Prim.Native.Nat.{ℕ, zero, suc, ◌<◌, ◌≤◌, ◌+◌, min}
+use mathlib.Core.Logic.{◌⊎◌, inl, inr}
+use Rattle.base.proofs.Facts.{lt_or_le}
 use native.Mathlib.Numerals.{add-one}
 use native.Mathlib.Omega.{arith}
 use native.Mathlib.Nat.{le_of_suc-le-suc}
@@ -14,7 +16,7 @@ use Rattle.base.proofs.Joined.{joined_same}
 use Rattle.server_log.specs.declared.Entry.{Entry}
 use Rattle.server_log.specs.declared.Log.{Log}
 use Rattle.server_log.specs.Entries.{zero_entry, same_entry, entry_at, common_beginning, is_beginning}
-use Rattle.server_log.specs.Logs.{live, joined}
+use Rattle.server_log.specs.Logs.{live, length_of, joined}
 use Rattle.server_log.proofs.Equal.{same_entry_eq, same_entry_refl}
 use Rattle.server_log.proofs.Live.{first_slots, entry_at_take}
 
@@ -47,37 +49,26 @@ abbrev pub Common : Log → Log → ℕ → Type 0
 Common a b i = common_beginning (live a) (live b) ≡ i + common_beginning (drop i (live a)) (drop i (live b))
 
 module _ (a b : Log) (i : ℕ) (u : Common a b i) where
-  pub common_end_left : a.len ≤ i → i ≡ common_beginning (live a) (live b)
-  common_end_left h = omega (arith, short_left (live a) (live b) i (omega (arith, length-take a.len a.entries)))
+  -- one of both is at its end
+  pub common_end : (n : ℕ) → n ≡ min (length_of a) (length_of b) → n ≤ i → i ≤ n → n ≡ common_beginning (live a) (live b)
+  common_end n e h l = go (lt_or_le (length_of a) (length_of b))
+    where
+      go : (length_of a < length_of b) ⊎ (length_of b ≤ length_of a) → n ≡ common_beginning (live a) (live b)
+      go (inl m) = omega (arith, short_left (live a) (live b) i (omega arith))
+      go (inr m) = omega (arith, short_right (live a) (live b) i (omega arith))
 
-  pub common_end_right : b.len ≤ i → i ≡ common_beginning (live a) (live b)
-  common_end_right h = omega (arith, short_right (live a) (live b) i (omega (arith, length-take b.len b.entries)))
-
-  pub common_full : length a.entries ≤ i → i ≡ common_beginning (live a) (live b)
-  common_full h = omega (arith, short_left (live a) (live b) i (omega (arith, length-take a.len a.entries)))
-
-  module _ (ha : i < a.len) (ka : i < length a.entries) (hb : i < b.len) (kb : i < length b.entries) where
-    reach_a : i < length (live a)
-    reach_a = omega (arith, length-take a.len a.entries)
-
-    reach_b : i < length (live b)
-    reach_b = omega (arith, length-take b.len b.entries)
+  module _ (ha : i < length_of a) (hb : i < length_of b) where
+    slots : same_entry (get_or (live a) i zero_entry) (get_or (live b) i zero_entry) ≡ same_entry (get_or a.entries i zero_entry) (get_or b.entries i zero_entry)
+    slots =
+        let x = get_or-take a.len a.entries i zero_entry (omega (arith, length-take a.len a.entries)) in
+        let y = get_or-take b.len b.entries i zero_entry (omega (arith, length-take b.len b.entries)) in
+        λ k. same_entry (x k) (y k)
 
     pub common_more : same_entry (get_or a.entries i zero_entry) (get_or b.entries i zero_entry) ≡ true → Common a b (i + 1)
-    common_more e =
-        omega (
-          arith,
-          next_same (live a) (live b) i reach_a reach_b
-              (rw (get_or-take a.len a.entries i zero_entry ha, get_or-take b.len b.entries i zero_entry hb) e),
-        )
+    common_more e = omega (arith, next_same (live a) (live b) i ha hb (slots ∙ e))
 
     pub common_stops : same_entry (get_or a.entries i zero_entry) (get_or b.entries i zero_entry) ≡ false → i ≡ common_beginning (live a) (live b)
-    common_stops e =
-        omega (
-          arith,
-          next_other (live a) (live b) i reach_a reach_b
-              (rw (get_or-take a.len a.entries i zero_entry ha, get_or-take b.len b.entries i zero_entry hb) e),
-        )
+    common_stops e = omega (arith, next_other (live a) (live b) i ha hb (slots ∙ e))
 
 -- ---- 01's sentence
 

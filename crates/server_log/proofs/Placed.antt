@@ -1,13 +1,15 @@
 -- Laws of `in_order` and `rest_zero`, for their loops. Assumes nothing.
-use mathlib.Core.Path.{◌≡◌, refl, ap, sym, ◌∙◌}
-use mathlib.Core.List.{List}
-use mathlib.Core.Bool.{true, false}
-use Prim.Native.Nat.{ℕ, suc, ◌+◌, ◌<◌, ◌≤◌}
+use mathlib.Core.Path.{◌≡◌, refl, ap, sym}
+use mathlib.Core.List.{List, [], ◌∷◌}
+use mathlib.Core.Bool.{Bool, true, false, ◌&&◌}
+use Prim.Native.Nat.{ℕ, suc, ◌+◌, ◌<◌, ◌≤◌, min}
 use native.Mathlib.Numerals.{add-one}
 use native.Mathlib.Omega.{arith}
-use lib.ListN.{length, drop, get_or, drop_of_length-le}
-use lib.Seq.{drop-cons}
+use lib.ListN.{length, drop, drop_of_length-le}
+use Rattle.std.specs.List.{list_all}
 use Rattle.base.specs.Numbers.{every}
+use Rattle.base.proofs.Facts.{lt_or_le}
+use mathlib.Core.Logic.{⊎_elim}
 use Rattle.base.proofs.Every.{every_none, every_more, every_fails}
 use Rattle.server_log.specs.declared.Entry.{Entry}
 use Rattle.server_log.specs.declared.Log.{Log}
@@ -44,29 +46,14 @@ module _ {term : ℕ} {es : List Entry} {i : ℕ} {d : Entry} (u : Placed term e
     unfolding in_order
     placed_fails bad = sym (every_fails _ (length es) i h (rw (← u.last, q) bad))
 
--- ---- a loop over the slots from k on
+-- ---- the slots from k on
 
-next_zero : (es : List Entry) (i : ℕ) → i < length es → same_entry (get_or es i zero_entry) zero_entry ≡ true → all_zero (drop i es) ≡ all_zero (drop (i + 1) es)
-next_zero es i h e = rw (add-one, drop-cons es i zero_entry h) (simp e)
+-- every entry is zero just where each is the zero entry
+pub all_zero_listed : (es : List Entry) → all_zero es ≡ list_all (λ e. same_entry e zero_entry) es
+all_zero_listed [] = refl
+all_zero_listed (e ∷ es) = ap (λ (b : Bool). same_entry e zero_entry && b) (all_zero_listed es)
 
-next_other : (es : List Entry) (i : ℕ) → i < length es → same_entry (get_or es i zero_entry) zero_entry ≡ false → all_zero (drop i es) ≡ false
-next_other es i h e = rw (drop-cons es i zero_entry h) (simp e)
-
--- the slots from k on are zero if those from i on are
-abbrev pub ZeroUpto : Log → ℕ → ℕ → Type 0
-ZeroUpto g k i = rest_zero g k ≡ all_zero (drop i g.entries)
-
-pub zero_none : (g : Log) (k : ℕ) → ZeroUpto g k k
+-- past the last slot there is none
+pub rest_cut : (g : Log) (k n : ℕ) → length g.entries ≡ n → all_zero (drop (min k n) g.entries) ≡ rest_zero g k
 unfolding rest_zero
-zero_none g k = refl
-
-module _ (g : Log) (k i : ℕ) (u : ZeroUpto g k i) where
-  pub zero_all : length g.entries ≤ i → true ≡ rest_zero g k
-  zero_all h = sym (u ∙ ap all_zero (drop_of_length-le g.entries h))
-
-  module _ (h : i < length g.entries) where
-    pub zero_more : same_entry (get_or g.entries i zero_entry) zero_entry ≡ true → ZeroUpto g k (i + 1)
-    zero_more e = u ∙ next_zero g.entries i h e
-
-    pub zero_fails : same_entry (get_or g.entries i zero_entry) zero_entry ≡ false → false ≡ rest_zero g k
-    zero_fails e = sym (u ∙ next_other g.entries i h e)
+rest_cut g k n h = ⊎_elim (λ (l : k < n). let e : min k n ≡ k = omega arith in rw e) (λ (l : n ≤ k). let e : min k n ≡ n = omega arith in rw (e, drop_of_length-le g.entries {i = n} (omega arith), drop_of_length-le g.entries {i = k} (omega arith))) (lt_or_le k n)

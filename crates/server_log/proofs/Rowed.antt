@@ -1,27 +1,34 @@
 -- A row of latest values: after entries it has what a walking read finds among them; and laws for the loops over rows. Assumes nothing.
 use mathlib.Core.Path.{◌≡◌, refl, ap, sym, ◌∙◌, subst}
-use mathlib.Core.List.{List, [], ◌∷◌, ◌++◌, append-nil}
+use mathlib.Core.List.{List, [], ◌∷◌, ◌++◌, append-nil, reverse}
 use mathlib.Core.Bool.{Bool, true, false, cond, ◌&&◌}
 use mathlib.Core.Logic.{⊎_elim}
-use Prim.Native.Nat.{ℕ, suc, ◌+◌, ◌<◌, ◌≤◌}
+use Prim.Native.Nat.{ℕ, suc, ◌+◌, ◌<◌, ◌≤◌, min}
 use native.Mathlib.Numerals.{add-one}
 use native.Mathlib.Omega.{arith}
 use lib.Dec.{eqb, leb}
-use lib.ListN.{length, get_or, take, drop, set, length-set, take-append-drop, drop_of_length-le, length-replicate, get_or-replicate}
+use lib.ListN.{length, get_or, take, drop, set, length-set, take-append-drop, length-replicate, get_or-replicate}
 use lib.Seq.{take-append_seam, append_snoc, take-take, take-length, drop-cons, get_or-set_same, get_or-set_other, ext_get_or}
 use borrow.Author.Tests.{eqb-true, eqb-false, leb-false, eq-eqb}
-use Rattle.base.specs.Numbers.{highest}
+use Rattle.std.specs.declared.option.Option.{Option}
+use Rattle.std.specs.declared.option.Option.TheVariants.{Some, None}
+use Rattle.std.specs.List.{find}
+use Rattle.std.proofs.lemmas.List.{reverse-append, reverse-reverse, take_min}
+use Rattle.server_log.proofs.Live.{first_slots}
+use lib.Pointwise.{pointwise}
+use Rattle.base.specs.Numbers.{every, highest}
 use Rattle.base.proofs.Bools.{and_both, and_left, and_right}
 use Rattle.base.proofs.Every.{every_at, every_all, every_same}
+use Rattle.base.proofs.Pointwise.{pointwise_every}
 use Rattle.base.proofs.Facts.{lt_or_le}
 use Rattle.server_log.specs.declared.Entry.{Entry}
 use Rattle.server_log.specs.declared.Log.{Log}
 use Rattle.server_log.specs.declared.rows.Latest.{Latest}
 use Rattle.server_log.specs.declared.rows.Rows.{Rows}
 use Rattle.server_log.specs.Entries.{zero_entry, entry_at, latest_value}
-use Rattle.server_log.specs.Logs.{live, length_of}
+use Rattle.server_log.specs.Logs.{live, length_of, latest_in}
 use Rattle.server_log.specs.Order.{highest_key}
-use Rattle.server_log.specs.Rows.{keys, zero_row, value_for, latest_after, latest_over, between, rows_of, same_row, row_ok, rows_ok}
+use Rattle.server_log.specs.Rows.{keys, zero_row, value_for, latest_after, latest_over, between, rows_of, row_ok, rows_ok}
 use Rattle.server_log.specs.Ranges.{FitsLatest, FitsRows}
 use Rattle.server_log.proofs.Latest.{found, latest_found, found_le, found_key, found_at, latest_first, key_of, value_of}
 use Rattle.server_log.proofs.Positions.{length_more, entry_at_new}
@@ -47,6 +54,27 @@ module _ (key : ℕ) (es : List Entry) (e : Entry) where
       past l =
           let p : found key (es ++ (e ∷ [])) ≡ suc (length es) = omega (arith, found_le key (es ++ (e ∷ [])), length_more es e) in
           absurd (ne (key_of (sym (entry_at_new es e)) ∙ (rw p at (found_key key (es ++ (e ∷ [])) (omega arith)))))
+
+-- looked for from the newest end
+abbrev pub value_of_found : Option Entry → ℕ
+value_of_found None = 0
+value_of_found (Some e) = e.value
+
+from_end : (key : ℕ) (rs : List Entry) → value_of_found (find (λ e. eqb e.key key) rs) ≡ latest_value key (reverse rs)
+unfolding highest entry_at latest_value
+from_end key [] = refl
+from_end key (e ∷ rs) = go (eqb e.key key) refl (from_end key rs) ∙ ap (latest_value key) (sym (reverse-append (e ∷ []) rs))
+  where
+    go : (b : Bool) → eqb e.key key ≡ b → value_of_found (find (λ e. eqb e.key key) rs) ≡ latest_value key (reverse rs)
+        → value_of_found (cond b (Some e) (find (λ e. eqb e.key key) rs)) ≡ latest_value key (reverse rs ++ (e ∷ []))
+    go true q h = sym (latest_new key (reverse rs) e (eqb-true e.key key q))
+    go false q h = h ∙ sym (latest_old key (reverse rs) e (eqb-false e.key key q))
+
+pub found_back : (g : Log) (key n m : ℕ) (o : Option Entry) → m ≡ min n (length_of g) → o ≡ find (λ e. eqb e.key key) (reverse (take m g.entries))
+    → value_of_found o ≡ latest_in g key n
+found_back g key n m o e q =
+    ap value_of_found q ∙ from_end key (reverse (take m g.entries)) ∙ ap (latest_value key) (reverse-reverse (take m g.entries))
+    ∙ ap (latest_value key) (first_slots g m (omega arith) ∙ ap (λ (k : ℕ). take k (live g)) e ∙ take_min n (live g))
 
 -- ---- a row has the latest value of each key among entries
 
@@ -172,18 +200,19 @@ module _ {es : List Entry} {v w : Latest} {i : ℕ} (u : OverLeft es v w i) wher
         same = rw add-one (ap (λ (d : Entry). latest_over (latest_after w d) (drop (suc i) es)) (sym q) ∙ ap (latest_over w) (sym (drop-cons es i zero_entry h)) ∙ u.same);
       }
 
-  pub left_none : length es ≤ i → w ≡ v
-  left_none h = sym (ap (latest_over w) (drop_of_length-le es h)) ∙ u.same
-
 -- rows are compared with those of a walk
-row_same : (v : Latest) (g : Log) (n : ℕ) → same_row v (latest_over zero_row (take n (live g))) ≡ row_ok v g n
-unfolding same_row row_ok
-row_same v g n = every_same _ _ keys (λ key l. ap (eqb (value_for v key)) (has_over (take n (live g)) key l))
+row_same : (v : Latest) (g : Log) (n : ℕ) → length v.values ≡ keys → pointwise eqb v.values (latest_over zero_row (take n (live g))).values ≡ row_ok v g n
+unfolding row_ok
+row_same v g n h =
+    let w = latest_over zero_row (take n (live g)) in
+    let l : length w.values ≡ keys = over_long zero_row (take n (live g)) ∙ length-replicate {A = ℕ} keys 0 in
+    pointwise_every eqb 0 v.values w.values (h ∙ sym l) ∙ ap (λ (k : ℕ). every k (λ key. eqb (value_for v key) (value_for w key))) h
+    ∙ every_same _ _ keys (λ key l. ap (eqb (value_for v key)) (has_over (take n (live g)) key l))
 
-pub rows_same : (r : Rows) (g : Log) (commit : ℕ)
-    → (same_row r.whole (rows_of g commit).whole && same_row r.committed (rows_of g commit).committed) ≡ rows_ok r g commit
+pub rows_same : (r : Rows) (g : Log) (commit : ℕ) → length r.whole.values ≡ keys → length r.committed.values ≡ keys
+    → (pointwise eqb r.whole.values (rows_of g commit).whole.values && pointwise eqb r.committed.values (rows_of g commit).committed.values) ≡ rows_ok r g commit
 unfolding rows_ok
-rows_same r g commit =
-    let v = ap (λ (es : List Entry). same_row r.whole (latest_over zero_row es)) (sym (take-length (live g))) ∙ row_same r.whole g (length_of g) in
-    let w = row_same r.committed g commit in
+rows_same r g commit h k =
+    let v = ap (λ (es : List Entry). pointwise eqb r.whole.values (latest_over zero_row es).values) (sym (take-length (live g))) ∙ row_same r.whole g (length_of g) h in
+    let w = row_same r.committed g commit k in
     λ i. v i && w i

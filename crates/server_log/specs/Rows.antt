@@ -40,10 +40,6 @@ between g k n = drop k (take n (live g))
 abbrev pub rows_of : Log → ℕ → Rows
 rows_of g commit = record { whole = latest_over zero_row (live g); committed = latest_over zero_row (take commit (live g)) }
 
--- the same value for each key
-unfoldable pub same_row : Latest → Latest → Bool
-same_row v w = every keys (λ key. eqb (value_for v key) (value_for w key))
-
 -- a row has for each key what a walking read finds in the first n entries
 unfoldable pub row_ok : Latest → Log → ℕ → Bool
 row_ok v g n = every keys (λ key. eqb (value_for v key) (latest_in g key n))

@@ -1,20 +1,20 @@
 // The latest value for each key, in a row: of a whole log, and of its committed beginning. Reads find it there without a walk.
 ghost use Rattle.std.specs.Prelude.{◌≡◌};
-ghost use Rattle.server_log.specs.Rows.{value_for, latest_after, latest_over, between, rows_of, same_row, rows_ok};
+ghost use Rattle.server_log.specs.Rows.{value_for, latest_after, latest_over, between, rows_of, rows_ok};
 
 use crate::{Entry, HIGHEST_KEY, Log, last_of, length_of};
 
 // How many keys there are.
 pub const KEYS: usize = 16;
 
-// The value for each key, 0 for none; a struct and no bare array, since a loop can set it from a call's result.
-#[derive(Clone, Copy)]
+// The value for each key, 0 for none.
+#[derive(Clone, Copy, PartialEq, Eq)]
 pub struct Latest {
     pub values: [u16; KEYS],
 }
 
 // What a server keeps beside its log.
-#[derive(Clone, Copy)]
+#[derive(Clone, Copy, PartialEq, Eq)]
 pub struct Rows {
     pub whole: Latest,
     pub committed: Latest,
@@ -31,11 +31,7 @@ pub const ZERO_ROWS: Rows = Rows {
 pub fn value_for(v: Latest, key: u8) -> u16
     ensures { result ≡ value_for v key }
 {
-    let i = key as usize;
-    if KEYS <= i {
-        return 0;
-    }
-    v.values[i]
+    v.values.get(usize::from(key)).copied().unwrap_or(0)
 }
 
 // The row after one entry more; one that writes nothing changes nothing.
@@ -45,7 +41,7 @@ pub fn latest_after(v: Latest, e: Entry) -> Latest
     if HIGHEST_KEY < e.key {
         return v;
     }
-    let key = e.key as usize;
+    let key = usize::from(e.key);
     let mut w = v;
     w.values[key] = e.value;
     w
@@ -57,14 +53,12 @@ pub fn latest_over(v: Latest, g: Log, k: usize, n: usize) -> Latest
 {
     let end = last_of(g, n);
     let mut w = v;
-    let mut i = k;
-    while i < end {
-        let key = g.entries[i].key;
-        if key <= HIGHEST_KEY {
-            let at = key as usize;
-            w.values[at] = g.entries[i].value;
+    // In place, which is quicker than a row from each call of latest_after.
+    for i in k..end {
+        let e = g.entries[i];
+        if e.key <= HIGHEST_KEY {
+            w.values[usize::from(e.key)] = e.value;
         }
-        i += 1;
     }
     w
 }
@@ -82,31 +76,10 @@ pub fn rows_of(g: Log, commit: usize) -> Rows
     }
 }
 
-// Whether two rows have the same values.
-fn same_row(v: Latest, w: Latest) -> bool
-    ensures { result ≡ same_row v w }
-{
-    let mut i = 0;
-    while i < KEYS {
-        if v.values[i] != w.values[i] {
-            return false;
-        }
-        i += 1;
-    }
-    true
-}
-
 // Whether both rows have what a walking read finds in the whole log and in its committed beginning.
 pub fn rows_ok(r: Rows, g: Log, commit: usize) -> bool
     ensures { result ≡ rows_ok r g commit }
 {
     let afresh = rows_of(g, commit);
-    let v = r.whole;
-    let w = afresh.whole;
-    if !same_row(v, w) {
-        return false;
-    }
-    let x = r.committed;
-    let y = afresh.committed;
-    same_row(x, y)
+    r == afresh
 }

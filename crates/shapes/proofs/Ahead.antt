@@ -12,8 +12,7 @@ use Rattle.saved.specs.Layout.{Widths, said_at}
 use Rattle.saved.specs.Editions.{Edition, edition_numbered}
 use Rattle.saved.specs.Shape.{announced, shaped_by, shaped_first}
 use Rattle.shapes.specs.declared.Left.{Left}
-use Rattle.shapes.specs.declared.Due.{Due}
-use Rattle.shapes.specs.declared.Due.TheVariants.{Frame, End}
+use Rattle.std.proofs.Common.{Option, Some, None}
 use Rattle.shapes.specs.Walk.{todo, due_of, edition_for, left_after, is_end}
 
 -- the lines that may follow, by what is left
@@ -27,11 +26,11 @@ pub record Later (k : Sort) : Type 0 where
   pub kept : (w : Widths) (bs : List ℕ) (l : Left) → (left_after w k bs l).edition ≡ l.edition
 
 -- the first frame is due; or nothing is left; or a frame of the sort k and then ks, and after it what it announces and then ks
-pub data Tells (l : Left) : Due → Type 0 where
-  first : l.begun ≡ false → Tells l (Frame S.First)
-  over : l.begun ≡ true → todo l ≡ [] → Tells l End
+pub data Tells (l : Left) : Option Sort → Type 0 where
+  first : l.begun ≡ false → Tells l (Some S.First)
+  over : l.begun ≡ true → todo l ≡ [] → Tells l None
   next : (k : Sort) (ks : List Sort) → l.begun ≡ true → Later k → todo l ≡ k ∷ ks
-      → ((w : Widths) (bs : List ℕ) → todo (left_after w k bs l) ≡ announced w k bs ++ ks) → Tells l (Frame k)
+      → ((w : Widths) (bs : List ℕ) → todo (left_after w k bs l) ≡ announced w k bs ++ ks) → Tells l (Some k)
 
 abbrev left : Bool → ℕ → ℕ → ℕ → ℕ → ℕ → Left
 left b v s e n r = record { begun = b; edition = v; servers = s; entries = e; notes = n; reports = r }
@@ -66,7 +65,7 @@ tells l = go l.begun l.edition l.servers l.entries l.notes l.reports
     go true v zero zero zero zero = over refl refl
 
 -- nothing is due exactly where no line may follow
-pub at_end_lem : (knows : List Edition) {l : Left} {d : Due} → Tells l d → is_end d ≡ expects knows l []
+pub at_end_lem : (knows : List Edition) {l : Left} {d : Option Sort} → Tells l d → is_end d ≡ expects knows l []
 at_end_lem knows {l} (first b) = sym (ap (λ (x : Bool). cond x (shaped_by (edition_numbered knows l.edition).widths (todo l) []) false) b)
 at_end_lem knows {l} (over b e) = sym (rw (b, e))
 at_end_lem knows {l} (next k ks b later e f) = sym (rw (b, e))

@@ -48,7 +48,7 @@ over_zeros n bs i h =
     past : k ≤ i → length bs ≤ i
     past l = let m = length-replicate {A = ℕ} n 0 in ⊎_elim (λ b. omega arith) (λ g. let s = h g in omega arith) (lt_or_le i n)
 
--- the bytes that `bytes_in` gives
+-- the bytes that `first_bytes` gives
 pub bytes_same : (line bs : List ℕ) → bs ≡ over (bytes_of line) (replicate most_bytes 0) → (i : ℕ) → (most_bytes ≤ i → length line ≤ kept_chars) → byte_at bs i ≡ byte_at (bytes_of line) i
 bytes_same line bs e i h =
     ap (λ (x : List ℕ). byte_at x i) e ∙ over_zeros most_bytes (bytes_of line) i (λ g. let s = h g in omega (arith, bytes_length line))

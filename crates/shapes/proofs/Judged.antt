@@ -15,31 +15,31 @@ use Rattle.saved.specs.Shape.{is_frame}
 use Rattle.saved.specs.Written.{most_bytes}
 use Rattle.shapes.specs.declared.Left.{Left}
 use Rattle.shapes.specs.declared.Shape.{Shape}
-use Rattle.shapes.specs.declared.Due.{Due}
-use Rattle.shapes.specs.declared.Due.TheVariants.{Frame, End}
+use Rattle.std.proofs.Common.{Option, Some, None}
 use Rattle.lines.specs.Texts.{one_more}
-use Rattle.shapes.specs.Walk.{kept_chars, frame_reader, due_of, edition_for, shape_held, broken_at, next_line, is_next, ended_as, line_ended}
+use Rattle.shapes.specs.Walk.{kept_chars, due_of, edition_for, shape_held, broken_at, next_line, is_next, ended_as, line_ended}
+use Rattle.lines.specs.Readers.{reader_of}
 use Rattle.shapes.proofs.Frames.{small, bytes_same, says_so, left_same, left_any}
 use Rattle.shapes.proofs.Next.{next_none, reads_all}
 
 module _ (s : Shape) where
-  pub judged_end : due_of s.left ≡ End → broken_at s ≡ line_ended s
+  pub judged_end : due_of s.left ≡ None → broken_at s ≡ line_ended s
   unfolding ended_as
-  judged_end e = sym (ap (λ (d : Due). ended_as editions d s) e)
+  judged_end e = sym (ap (λ (d : Option Sort). ended_as editions d s) e)
 
-  module _ (k : Sort) (due : due_of s.left ≡ Frame k) where
+  module _ (k : Sort) (due : due_of s.left ≡ Some k) where
     abbrev next : List ℕ → Bool
     next line = is_next editions k s.left.edition line
 
     -- the next line, with these frames left
     abbrev after : Left → Shape
-    after l = record { left = l; reader = nothing_read kept_chars frame_reader; number = one_more s.number; broken = s.broken }
+    after l = record { left = l; reader = nothing_read kept_chars reader_of; number = one_more s.number; broken = s.broken }
 
     by_test : (t : Bool) → next (shape_held s) ≡ t → cond t (next_line widths1 k (bytes_of (shape_held s)) s) (broken_at s) ≡ line_ended s
     unfolding ended_as
     by_test t e =
         sym
-        (ap (λ (d : Due). ended_as editions d s) due
+        (ap (λ (d : Option Sort). ended_as editions d s) due
         ∙ (λ i. cond (next (shape_held s)) (after (left_any (edition_for k s.left.edition (bytes_of (shape_held s))) k (bytes_of (shape_held s)) s.left i)) (broken_at s))
         ∙ ap (λ (x : Bool). cond x (next_line widths1 k (bytes_of (shape_held s)) s) (broken_at s)) e)
 

@@ -22,9 +22,10 @@ use Rattle.saved.specs.Editions.{Edition, is_known, edition_numbered}
 use Rattle.saved.specs.Shape.{is_frame, named_in, named_by}
 use Rattle.shapes.specs.declared.Left.{Left}
 use Rattle.shapes.specs.declared.Shape.{Shape}
-use Rattle.shapes.specs.declared.Due.{Due}
-use Rattle.shapes.specs.declared.Due.TheVariants.{Frame}
-use Rattle.shapes.specs.Walk.{kept_chars, frame_reader, frame_push, fresh_shape, due_of, edition_for, shape_held, with_reader, shape_push, broken_at, next_line, is_next, ended_as, line_ended_for, shape_after, walked_for, is_end, is_shaped, AtOnce}
+use Rattle.saved.specs.declared.Sort.{Sort}
+use Rattle.std.proofs.Common.{Option, Some}
+use Rattle.shapes.specs.Walk.{kept_chars, fresh_shape, due_of, edition_for, shape_held, with_reader, shape_push, broken_at, next_line, is_next, ended_as, line_ended_for, shape_after, walked_for, is_end, is_shaped, AtOnce}
+use Rattle.lines.specs.Readers.{reader_of, push_of}
 use Rattle.shapes.proofs.Next.{Reads, StandsFor, held_next, held_bytes}
 use Rattle.shapes.proofs.Ahead.{Tells, first, over, next, tells}
 use Rattle.shapes.proofs.Told.{after_feed, after_character, broken_stays, broken_told}
@@ -37,7 +38,7 @@ pub record Keeps (s t : Shape) : Type 0 where
   pub edition : t.left.edition ≡ s.left.edition
 
 module _ (knows : List Edition) where
-  ended_keeps : (s : Shape) → s.left.begun ≡ true → {d : Due} → Tells s.left d → Keeps s (ended_as knows d s)
+  ended_keeps : (s : Shape) → s.left.begun ≡ true → {d : Option Sort} → Tells s.left d → Keeps s (ended_as knows d s)
   unfolding ended_as
   ended_keeps s b (first f) = not_both s.left.begun b f
   ended_keeps s b (over c e) = record { begun = b; edition = refl }
@@ -65,7 +66,7 @@ module _ (knows : List Edition) where
 
 -- ---- it is the first line's
 
-first_due : (l : Left) → l.begun ≡ false → due_of l ≡ Frame S.First
+first_due : (l : Left) → l.begun ≡ false → due_of l ≡ Some S.First
 unfolding due_of
 first_due l e = rw e
 
@@ -74,7 +75,7 @@ module _ (knows : List Edition) (r : Reads knows) where
   Names p text s = is_shaped (walked_for knows s text) ≡ true → (walked_for knows s text).left.edition ≡ named_in (get_or (lines p) 0 [])
 
   -- at a line feed after the characters p
-  feed_names : (s : Shape) (p text whole : List ℕ) → s.left.begun ≡ false → StandsFor s p → get_or (lines whole) 0 [] ≡ p → Names whole text (ended_as knows (Frame S.First) s)
+  feed_names : (s : Shape) (p text whole : List ℕ) → s.left.begun ≡ false → StandsFor s p → get_or (lines whole) 0 [] ≡ p → Names whole text (ended_as knows (Some S.First) s)
   unfolding ended_as
   feed_names s p text whole b h f = go (is_next knows S.First s.left.edition p) refl
     where
@@ -91,7 +92,7 @@ module _ (knows : List Edition) (r : Reads knows) where
       go false y = rw (held_next knows r S.First n s h ∙ y) (λ t. not_both _ t (broken_told knows (broken_at s) text refl))
 
   names : (text : List ℕ) (s : Shape) (p : List ℕ) → s.broken ≡ false → s.left.begun ≡ false → Plain p → StandsFor s p → Names (p ++ text) text s
-  unfolding is_shaped frame_push
+  unfolding is_shaped push_of
   names [] s p b f q h =
       λ t. not_both (is_end (due_of s.left)) (and_right (nothing_held s.reader.fill s.reader.over) _ (and_right (not s.broken) _ t)) (ap is_end (first_due s.left f))
   names (c ∷ text) s p b f q h = go (names text) (eqb c line_feed) refl
@@ -100,13 +101,13 @@ module _ (knows : List Edition) (r : Reads knows) where
           → (x : Bool) → eqb c line_feed ≡ x → Names (p ++ (c ∷ text)) text (shape_after knows s c)
       go onward true e =
           let z = eqb-true c line_feed e in
-          subst (Names (p ++ (c ∷ text)) text) (sym (after_feed knows s c b z ∙ ap (λ (d : Due). ended_as knows d s) (first_due s.left f)))
+          subst (Names (p ++ (c ∷ text)) text) (sym (after_feed knows s c b z ∙ ap (λ (d : Option Sort). ended_as knows d s) (first_due s.left f)))
           (feed_names s p text (p ++ (c ∷ text)) f h (ap (λ (x : ℕ). get_or (lines (p ++ (x ∷ text))) 0 []) z ∙ ap (λ (ls : List (List ℕ)). get_or ls 0 []) (line_first text q)))
       go onward false e =
           subst (Names (p ++ (c ∷ text)) text) (sym (after_character knows s c b (eqb-false c line_feed e)))
-          (push_holds kept_chars frame_reader (λ x. Names (p ++ (c ∷ text)) text (with_reader s x)) c
-          (λ held fill over x. subst (λ (w : List ℕ). Names w text (with_reader s (frame_reader held fill over))) (append_assoc p (c ∷ []) text)
-          (onward (with_reader s (frame_reader held fill over)) (p ++ (c ∷ [])) b f (plain_snoc c q e) x)) h)
+          (push_holds kept_chars reader_of (λ x. Names (p ++ (c ∷ text)) text (with_reader s x)) c
+          (λ held fill over x. subst (λ (w : List ℕ). Names w text (with_reader s (reader_of held fill over))) (append_assoc p (c ∷ []) text)
+          (onward (with_reader s (reader_of held fill over)) (p ++ (c ∷ [])) b f (plain_snoc c q e) x)) h)
 
   -- THE LAW
   pub named : (text : List ℕ) → is_shaped (walked_for knows fresh_shape text) ≡ true → (walked_for knows fresh_shape text).left.edition ≡ named_by text
@@ -127,18 +128,18 @@ module _ (knows : List Edition) (r : Reads knows) where
 
   unknown_from : (q rest : List ℕ) (s : Shape) (p : List ℕ) → InFirst s → StandsFor s p → Plain q → is_known knows (named_in (p ++ q)) ≡ false
       → AtOnce (walked_for knows s (q ++ (line_feed ∷ rest)))
-  unfolding frame_push ended_as is_next
+  unfolding push_of ended_as is_next
   unknown_from [] rest s p i h pl u = subst AtOnce (sym (ap (λ (x : Shape). walked_for knows x rest) step ∙ broken_stays knows (broken_at s) rest refl)) (record { broken = refl; line = i.line })
     where
       no : is_next knows S.First s.left.edition (shape_held s) ≡ false
       no = held_next knows r S.First s.left.edition s h ∙ ap (λ (x : Bool). x && is_frame (edition_numbered knows (named_in p)).widths S.First p) (ap (λ (x : List ℕ). is_known knows (named_in x)) (sym (append-nil p)) ∙ u)
 
       step : shape_after knows s line_feed ≡ broken_at s
-      step = after_feed knows s line_feed i.whole refl ∙ ap (λ (d : Due). ended_as knows d s) (first_due s.left i.begun) ∙ rw no
+      step = after_feed knows s line_feed i.whole refl ∙ ap (λ (d : Option Sort). ended_as knows d s) (first_due s.left i.begun) ∙ rw no
   unknown_from (c ∷ q) rest s p i h (more e pl) u =
       subst (λ (x : Shape). AtOnce (walked_for knows x (q ++ (line_feed ∷ rest)))) (sym (after_character knows s c i.whole (eqb-false c line_feed e)))
-      (push_holds kept_chars frame_reader (λ x. AtOnce (walked_for knows (with_reader s x) (q ++ (line_feed ∷ rest)))) c
-      (λ held fill over x. unknown_from q rest (with_reader s (frame_reader held fill over)) (p ++ (c ∷ [])) (record { whole = i.whole; begun = i.begun; line = i.line }) x pl
+      (push_holds kept_chars reader_of (λ x. AtOnce (walked_for knows (with_reader s x) (q ++ (line_feed ∷ rest)))) c
+      (λ held fill over x. unknown_from q rest (with_reader s (reader_of held fill over)) (p ++ (c ∷ [])) (record { whole = i.whole; begun = i.begun; line = i.line }) x pl
       (ap (λ (w : List ℕ). is_known knows (named_in w)) (append_assoc p (c ∷ []) q) ∙ u)) h)
 
   -- THE LAW

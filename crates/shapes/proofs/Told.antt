@@ -2,13 +2,11 @@
 use mathlib.Core.Path.{◌≡◌, refl, sym, ap, subst, ◌∙◌}
 use mathlib.Core.Bool.{Bool, true, false, cond, ◌&&◌}
 use mathlib.Core.List.{List, [], ◌∷◌, ◌++◌, append_assoc, append-nil}
-use Prim.Native.Nat.{ℕ, suc, ◌+◌, ◌-◌, ◌<◌}
-use native.Mathlib.Numerals.{add-one}
+use Prim.Native.Nat.{ℕ, suc, ◌-◌}
 use native.Mathlib.Omega.{arith}
 use borrow.Author.Tests.{eq-eqb, ne_eqb, eqb-true, eqb-false}
 use lib.Dec.{eqb}
-use lib.ListN.{length, get_or, drop}
-use lib.Seq.{drop-cons}
+use lib.ListN.{length, get_or}
 use Rattle.base.proofs.Bools.{and_no, not_both}
 use Rattle.hex_text.specs.Lines.{bytes_of}
 use Rattle.words.specs.Words.{byte_at}
@@ -22,8 +20,9 @@ use Rattle.saved.specs.Editions.{Edition, editions, is_known, edition_numbered}
 use Rattle.saved.specs.Shape.{is_frame, announced, shaped_by, named_in, shaped_first, shaped_for, shaped}
 use Rattle.shapes.specs.declared.Left.{Left}
 use Rattle.shapes.specs.declared.Shape.{Shape}
-use Rattle.shapes.specs.declared.Due.{Due}
-use Rattle.shapes.specs.Walk.{kept_chars, frame_reader, frame_push, fresh_shape, todo, edition_for, shape_held, with_reader, shape_push, broken_at, next_line, is_next, ended_as, line_ended_for, shape_after, walked_for, walked, is_shaped}
+use Rattle.std.proofs.Common.{Option}
+use Rattle.shapes.specs.Walk.{kept_chars, fresh_shape, todo, edition_for, shape_held, with_reader, shape_push, broken_at, next_line, is_next, ended_as, line_ended_for, shape_after, walked_for, walked, is_shaped}
+use Rattle.lines.specs.Readers.{reader_of, push_of}
 use Rattle.shapes.proofs.Next.{Reads, StandsFor, held_next, held_bytes, next_known, reads_all}
 use Rattle.shapes.proofs.Ahead.{expects, Later, Tells, first, over, next, tells, at_end_lem}
 
@@ -83,13 +82,6 @@ module _ (knows : List Edition) where
   unfolding is_shaped
   broken_told s text e = ap is_shaped (broken_stays s text e) ∙ simp e
 
-  -- a byte further along a piece
-  pub walked_more : (w q r : Shape) (piece : List ℕ) (i : ℕ) → i < length piece → walked_for knows q (drop i piece) ≡ w → r ≡ shape_after knows q (get_or piece i 0)
-      → walked_for knows r (drop (i + 1) piece) ≡ w
-  walked_more w q r piece i h e f =
-      ap (λ (x : Shape). walked_for knows x (drop (i + 1) piece)) f ∙ ap (λ (k : ℕ). walked_for knows (shape_after knows q (get_or piece i 0)) (drop k piece)) (add-one i)
-      ∙ ap (walked_for knows q) (sym (drop-cons piece i 0 h)) ∙ e
-
   -- in whatever pieces
   pub walked_append : (s : Shape) (x y : List ℕ) → walked_for knows s (x ++ y) ≡ walked_for knows (walked_for knows s x) y
   walked_append s [] y = refl
@@ -127,7 +119,7 @@ module _ (knows : List Edition) (r : Reads knows) where
       go false y z = refl
 
   -- a line feed after the characters p
-  at_feed : (text : List ℕ) → Right text → (s : Shape) (p : List ℕ) → s.broken ≡ false → Known s.left → StandsFor s p → {d : Due} → Tells s.left d
+  at_feed : (text : List ℕ) → Right text → (s : Shape) (p : List ℕ) → s.broken ≡ false → Known s.left → StandsFor s p → {d : Option Sort} → Tells s.left d
       → is_shaped (walked_for knows (ended_as knows d s) text) ≡ (closed text && expects knows s.left (p ∷ lines text))
   unfolding ended_as
   at_feed text right s p b known h (over begun e) =
@@ -199,7 +191,7 @@ module _ (knows : List Edition) (r : Reads knows) where
           ∙ sym (ap (λ (x : Bool). closed text && x) (left_next ∙ ap (λ (x : Bool). x && shaped_by (widths_at n) (announced (widths_at n) k (bytes_of p) ++ ks) (lines text)) y) ∙ and_no (closed text) false refl))
 
   from : (text : List ℕ) → Right text
-  unfolding is_shaped closed frame_push
+  unfolding is_shaped closed push_of
   from [] s [] b known q h = simp (b, held_empty h) (at_end_lem knows (tells s.left))
   from [] s (c ∷ p) b known q h =
       simp (b, held_some h) (sym (ap (λ (x : Bool). x && expects knows s.left (lines (c ∷ p ++ []))) (ap closed (append-nil (c ∷ p)) ∙ closed_plain c p q)))
@@ -217,8 +209,8 @@ module _ (knows : List Edition) (r : Reads knows) where
           ∙ ap (λ (x : List (List ℕ)). closed text && expects knows s.left x) (line_first text q))
       go right false e =
           ap (λ (r : Shape). is_shaped (walked_for knows r text)) (after_character knows s c b (eqb-false c line_feed e))
-          ∙ push_holds kept_chars frame_reader (λ r. Rest (with_reader s r)) c
-          (λ held fill over r. right (with_reader s (frame_reader held fill over)) (p ++ (c ∷ [])) b known (plain_snoc c q e) r
+          ∙ push_holds kept_chars reader_of (λ r. Rest (with_reader s r)) c
+          (λ held fill over r. right (with_reader s (reader_of held fill over)) (p ++ (c ∷ [])) b known (plain_snoc c q e) r
           ∙ ap (λ (x : List ℕ). closed x && expects knows s.left (lines x)) (append_assoc p (c ∷ []) text)) h
 
   -- THE THEOREM

@@ -1,9 +1,12 @@
 -- A text byte by byte, for a reader that knows some editions: how many frames are still announced, and the line that is being read. Nobody has to
 -- believe this: by `told` it comes to `shaped_for`. Assumes nothing.
-use Rattle.std.specs.Prelude.{◌≡◌, Bool, true, false, cond, not, ◌&&◌, List, [], ◌∷◌, ◌++◌, ℕ, ◌-◌, ◌*◌, eqb, ltb, replicate}
+use Rattle.std.specs.Prelude.{◌≡◌, Bool, true, false, cond, not, ◌&&◌, List, ◌++◌, ℕ, ◌-◌, ◌*◌, eqb, ltb, replicate, Option, Some, None}
+use Rattle.std.specs.List.{fold}
 use Rattle.hex_text.specs.Lines.{chars, bytes_of}
 use Rattle.words.specs.Words.{byte_at}
-use Rattle.lines.specs.Held.{held_line, nothing_held, nothing_read, pushed}
+use Rattle.lines.specs.declared.ReaderOf.{ReaderOf}
+use Rattle.lines.specs.Held.{held_line, nothing_held, nothing_read}
+use Rattle.lines.specs.Readers.{reader_of, push_of}
 use Rattle.lines.specs.Texts.{line_feed, one_more}
 use Rattle.saved.specs.declared.Sort.{Sort}
 use Rattle.saved.specs.declared.Sort.TheVariants as S
@@ -12,28 +15,18 @@ use Rattle.saved.specs.Editions.{Edition, editions, is_known, edition_numbered}
 use Rattle.saved.specs.Shape.{is_frame}
 use Rattle.saved.specs.Written.{most_bytes}
 use Rattle.shapes.specs.declared.Left.{Left}
-use Rattle.shapes.specs.declared.FrameReader.{FrameReader}
 use Rattle.shapes.specs.declared.Shape.{Shape}
-use Rattle.shapes.specs.declared.Due.{Due}
-use Rattle.shapes.specs.declared.Due.TheVariants.{Frame, End}
 
 -- the characters of the longest frame
 abbrev pub kept_chars : ℕ
 kept_chars = chars * most_bytes
-
--- a reader of a line, and with one character more
-abbrev pub frame_reader : List ℕ → ℕ → Bool → FrameReader
-frame_reader held fill over = record { held = held; fill = fill; over = over }
-
-unfoldable pub frame_push : FrameReader → ℕ → FrameReader
-frame_push r b = pushed kept_chars frame_reader r.held r.fill r.over b
 
 -- nothing was read
 abbrev pub fresh_shape : Shape
 fresh_shape =
     record {
       left = record { begun = false; edition = 0; servers = 0; entries = 0; notes = 0; reports = 0 };
-      reader = nothing_read kept_chars frame_reader;
+      reader = nothing_read kept_chars reader_of;
       number = 1;
       broken = false;
     }
@@ -45,13 +38,13 @@ todo l =
     ++ (replicate l.notes S.Note ++ (replicate l.reports S.Report ++ replicate l.servers S.Server))
 
 -- what is due next
-unfoldable pub due_of : Left → Due
+unfoldable pub due_of : Left → Option Sort
 due_of l =
     cond l.begun
-    (cond (ltb 0 l.entries) (Frame S.Entry)
-    (cond (ltb 0 l.notes) (Frame S.Note)
-    (cond (ltb 0 l.reports) (Frame S.Report) (cond (ltb 0 l.servers) (Frame S.Server) End))))
-    (Frame S.First)
+    (cond (ltb 0 l.entries) (Some S.Entry)
+    (cond (ltb 0 l.notes) (Some S.Note)
+    (cond (ltb 0 l.reports) (Some S.Report) (cond (ltb 0 l.servers) (Some S.Server) None))))
+    (Some S.First)
 
 -- the edition of a frame: a first frame names its own, the others' is the text's
 abbrev pub edition_for : Sort → ℕ → List ℕ → ℕ
@@ -85,11 +78,11 @@ left_after w S.Report bs l =
 abbrev pub shape_held : Shape → List ℕ
 shape_held s = held_line kept_chars s.reader.held s.reader.fill s.reader.over
 
-abbrev pub with_reader : Shape → FrameReader → Shape
+abbrev pub with_reader : Shape → ReaderOf kept_chars → Shape
 with_reader s r = record { left = s.left; reader = r; number = s.number; broken = s.broken }
 
 abbrev pub shape_push : Shape → ℕ → Shape
-shape_push s b = with_reader s (frame_push s.reader b)
+shape_push s b = with_reader s (push_of s.reader b)
 
 -- the line that is held isn't the one that is due
 abbrev pub broken_at : Shape → Shape
@@ -100,7 +93,7 @@ abbrev pub next_line : Widths → Sort → List ℕ → Shape → Shape
 next_line w k bs s =
     record {
       left = left_after w k bs s.left;
-      reader = nothing_read kept_chars frame_reader;
+      reader = nothing_read kept_chars reader_of;
       number = one_more s.number;
       broken = s.broken;
     }
@@ -113,11 +106,11 @@ module _ (knows : List Edition) where
       is_known knows m && is_frame (edition_numbered knows m).widths k line
 
   -- at a line feed, by what is due
-  unfoldable pub ended_as : Due → Shape → Shape
-  ended_as (Frame k) s =
+  unfoldable pub ended_as : Option Sort → Shape → Shape
+  ended_as (Some k) s =
       let line = shape_held s in
       cond (is_next k s.left.edition line) (next_line (edition_numbered knows (edition_for k s.left.edition (bytes_of line))).widths k (bytes_of line) s) (broken_at s)
-  ended_as End s = broken_at s
+  ended_as None s = broken_at s
 
   abbrev pub line_ended_for : Shape → Shape
   line_ended_for s = ended_as (due_of s.left) s
@@ -127,8 +120,7 @@ module _ (knows : List Edition) where
   shape_after s b = cond s.broken s (cond (eqb b line_feed) (line_ended_for s) (shape_push s b))
 
   abbrev pub walked_for : Shape → List ℕ → Shape
-  walked_for s [] = s
-  walked_for s (b ∷ bs) = walked_for (shape_after s b) bs
+  walked_for s text = fold shape_after s text
 
 -- for a reader that knows all editions
 abbrev pub line_ended : Shape → Shape
@@ -137,9 +129,9 @@ line_ended s = line_ended_for editions s
 abbrev pub walked : Shape → List ℕ → Shape
 walked s text = walked_for editions s text
 
-abbrev pub is_end : Due → Bool
-is_end (Frame k) = false
-is_end End = true
+abbrev pub is_end : Option Sort → Bool
+is_end (Some k) = false
+is_end None = true
 
 -- not broken, no line begun, nothing due
 unfoldable pub is_shaped : Shape → Bool

@@ -1,23 +1,25 @@
 // Whether a text has the shape of a saved form, told byte by byte with a few counters and one line, so in fixed memory.
 #![tactic(auto)]
 
-ghost use Rattle.std.specs.Prelude.{◌≡◌, ◌&&◌, ◌-◌, eqb, replicate};
+ghost use Rattle.std.specs.Prelude.{◌≡◌, ◌&&◌, eqb, replicate};
 ghost use Rattle.hex_text.specs.Lines.{bytes_of, over};
 ghost use Rattle.words.specs.Words.{byte_at};
 ghost use Rattle.saved.specs.Layout.{sort_number, size_of};
 ghost use Rattle.saved.specs.Editions.{widths1, editions, is_known, edition_numbered};
 ghost use Rattle.saved.specs.Written.{most_bytes};
-ghost use Rattle.lines.specs.Held.{nothing_read, only_long};
-ghost use Rattle.shapes.specs.Walk.{kept_chars, frame_reader, frame_push, shape_push, fresh_shape, due_of, edition_for, left_after, is_next, broken_at, next_line, line_ended, walked, is_shaped};
+ghost use Rattle.shapes.specs.Walk.{shape_push, shape_after, fresh_shape, due_of, edition_for, left_after, is_next, broken_at, next_line, line_ended, walked, is_shaped};
 
+use lines::{LINE_FEED, ReaderOf};
 use saved::Sort;
+use words::line::first_bytes;
 use words::word;
 
 // The characters of the longest frame.
 pub const MOST_CHARS: usize = hex_text::CHARS * saved::SERVER_BYTES;
 
 // The frames that are still announced, and whether the first frame, which names the edition and announces the servers, was read.
-#[derive(Clone, Copy)]
+// Kept: in an `Option<Left>`, none before that, there would be no edition, and `line_ended` hands one to `is_next` for any sort.
+#[derive(Clone, Copy, Default)]
 pub struct Left {
     pub begun: bool,
     pub edition: u8,
@@ -27,29 +29,15 @@ pub struct Left {
     pub reports: usize,
 }
 
-// The line that is being read, as wide as the longest frame: its characters, how many there are, and whether it is too long; then nothing else
-// is kept.
-#[derive(Clone, Copy)]
-pub struct FrameReader {
-    pub held: [u8; MOST_CHARS],
-    pub fill: usize,
-    pub over: bool,
-}
-
-// How far the shape of a text is told: the frames that are left, the line that is being read, its number, and whether the shape is broken there.
+// How far the shape of a text is told: the frames that are left, the line that is being read, of which as much is kept as the longest frame has, its
+// number, and whether the shape is broken there.
+// Kept: a flag, since what was left and the line's number still tell what was due there.
 #[derive(Clone, Copy)]
 pub struct Shape {
     pub left: Left,
-    pub reader: FrameReader,
+    pub reader: ReaderOf<MOST_CHARS>,
     pub number: usize,
     pub broken: bool,
-}
-
-// What is due next: a frame of a sort, or the end of the text.
-#[derive(Clone, Copy)]
-pub enum Due {
-    Frame(Sort),
-    End,
 }
 
 // How many bytes a frame of the sort has in an edition.
@@ -60,8 +48,7 @@ fn size_of(edition: u8, k: Sort) -> usize
         Sort::First => saved::first_bytes(edition),
         Sort::Server => saved::SERVER_BYTES,
         Sort::Entry => saved::ENTRY_BYTES,
-        Sort::Note => saved::TOLD_BYTES,
-        Sort::Report => saved::TOLD_BYTES,
+        Sort::Note | Sort::Report => saved::TOLD_BYTES,
     }
 }
 
@@ -71,54 +58,24 @@ fn edition_for(k: Sort, edition: u8, b: [u8; saved::SERVER_BYTES]) -> u8
 {
     match k {
         Sort::First => b[1],
-        Sort::Server => edition,
-        Sort::Entry => edition,
-        Sort::Note => edition,
-        Sort::Report => edition,
+        _ => edition,
     }
-}
-
-// The bytes of a line, zeros after them.
-fn bytes_in(line: &[u8]) -> [u8; saved::SERVER_BYTES]
-    ensures { result ≡ over (bytes_of line.now) (replicate most_bytes 0) }
-{
-    let mut b: [u8; saved::SERVER_BYTES] = [0; saved::SERVER_BYTES];
-    hex_text::unhex(line, &mut b);
-    b
 }
 
 // Whether a frame with these bytes says that it is of the sort, and its edition is known.
 fn says(k: Sort, edition: u8, b: [u8; saved::SERVER_BYTES]) -> bool
     ensures { result ≡ (eqb (byte_at b 0) (sort_number k) && is_known editions edition) }
 {
-    if b[0] != saved::sort_number(k) {
-        return false;
-    }
-    saved::is_known(edition)
+    b[0] == saved::sort_number(k) && saved::is_known(edition)
 }
 
 // Whether the line is a frame of the sort in its edition.
 fn is_next(k: Sort, edition: u8, line: &[u8]) -> bool
     ensures { result ≡ is_next editions k edition line.now }
 {
-    let b = bytes_in(line);
+    let b = first_bytes(line);
     let own = edition_for(k, edition, b);
-    if line.len() != hex_text::CHARS * size_of(own, k) {
-        return false;
-    }
-    if !hex_text::all_hex(line) {
-        return false;
-    }
-    says(k, own, b)
-}
-
-fn one_less(n: usize) -> usize
-    ensures { result ≡ n - 1 }
-{
-    if n == 0 {
-        return 0;
-    }
-    n - 1
+    line.len() == hex_text::CHARS * size_of(own, k) && hex_text::all_hex(line) && says(k, own, b)
 }
 
 // What is left after a frame of the sort with these bytes.
@@ -129,91 +86,54 @@ fn left_after(k: Sort, b: [u8; saved::SERVER_BYTES], l: Left) -> Left
         Sort::First => Left {
             begun: true,
             edition: b[1],
-            servers: b[2] as usize,
+            servers: usize::from(b[2]),
             entries: 0,
             notes: 0,
             reports: 0,
         },
         Sort::Server => Left {
-            begun: l.begun,
-            edition: l.edition,
-            servers: one_less(l.servers),
-            entries: word(b[1], b[2]) as usize,
-            notes: b[3] as usize,
-            reports: b[4] as usize,
+            servers: l.servers.saturating_sub(1),
+            entries: usize::from(word(b[1], b[2])),
+            notes: usize::from(b[3]),
+            reports: usize::from(b[4]),
+            ..l
         },
         Sort::Entry => Left {
-            entries: one_less(l.entries),
+            entries: l.entries.saturating_sub(1),
             ..l
         },
         Sort::Note => Left {
-            notes: one_less(l.notes),
+            notes: l.notes.saturating_sub(1),
             ..l
         },
         Sort::Report => Left {
-            reports: one_less(l.reports),
+            reports: l.reports.saturating_sub(1),
             ..l
         },
     }
 }
 
-fn due_of(l: Left) -> Due
+// The sort of the frame that is due next; none at the end of the text.
+#[tactic(auto, unfolding(crate::specs::Walk::due_of))]
+fn due_of(l: Left) -> Option<Sort>
     ensures { result ≡ due_of l }
 {
     if !l.begun {
-        return Due::Frame(Sort::First);
+        return Some(Sort::First);
     }
     if 0 < l.entries {
-        return Due::Frame(Sort::Entry);
+        return Some(Sort::Entry);
     }
     if 0 < l.notes {
-        return Due::Frame(Sort::Note);
+        return Some(Sort::Note);
     }
     if 0 < l.reports {
-        return Due::Frame(Sort::Report);
+        return Some(Sort::Report);
     }
     if 0 < l.servers {
-        return Due::Frame(Sort::Server);
+        return Some(Sort::Server);
     }
-    Due::End
-}
-
-// Before the first character of a line; and a line that is too long, of which that alone is remembered.
-fn fresh_frame() -> FrameReader
-    ensures { result ≡ nothing_read kept_chars frame_reader }
-{
-    FrameReader {
-        held: [0; MOST_CHARS],
-        fill: 0,
-        over: false,
-    }
-}
-
-fn only_long() -> FrameReader
-    ensures { result ≡ only_long kept_chars frame_reader }
-{
-    FrameReader {
-        held: [0; MOST_CHARS],
-        fill: 0,
-        over: true,
-    }
-}
-
-// The reader with one character more.
-fn pushed(r: FrameReader, b: u8) -> FrameReader
-    ensures { result ≡ frame_push r b }
-{
-    if r.over {
-        return only_long();
-    }
-    let at = r.fill;
-    if MOST_CHARS <= at {
-        return only_long();
-    }
-    let mut q = r;
-    q.held[at] = b;
-    q.fill = at + 1;
-    q
+    None
 }
 
 // The shape of a text of which nothing was read.
@@ -221,45 +141,33 @@ pub fn begin() -> Shape
     ensures { result ≡ fresh_shape }
 {
     Shape {
-        left: Left {
-            begun: false,
-            edition: 0,
-            servers: 0,
-            entries: 0,
-            notes: 0,
-            reports: 0,
-        },
-        reader: fresh_frame(),
+        left: Left::default(),
+        reader: lines::fresh_reader(),
         number: 1,
         broken: false,
     }
 }
 
-// What is due next: where the shape is broken, what its line should have been.
-pub fn expected(s: Shape) -> Due
+// The sort that is due next, none at the end; where the shape is broken, that of which its line should have been.
+pub fn expected(s: Shape) -> Option<Sort>
     ensures { result ≡ due_of s.left }
 {
-    let l = s.left;
-    due_of(l)
+    due_of(s.left)
 }
 
 fn broken_at(s: Shape) -> Shape
     ensures { result ≡ broken_at s }
 {
-    let mut q = s;
-    q.broken = true;
-    q
+    Shape { broken: true, ..s }
 }
 
 // A frame of the sort came with these bytes, and the next line begins.
 fn next_line(k: Sort, b: [u8; saved::SERVER_BYTES], s: Shape) -> Shape
     ensures { result ≡ next_line widths1 k b s }
 {
-    let l = s.left;
-    let left = left_after(k, b, l);
     Shape {
-        left: left,
-        reader: fresh_frame(),
+        left: left_after(k, b, s.left),
+        reader: lines::fresh_reader(),
         number: lines::one_more(s.number),
         broken: s.broken,
     }
@@ -269,34 +177,41 @@ fn next_line(k: Sort, b: [u8; saved::SERVER_BYTES], s: Shape) -> Shape
 fn line_ended(s: Shape) -> Shape
     ensures { result ≡ line_ended s }
 {
-    let due = expected(s);
-    let Due::Frame(k) = due else {
+    let Some(k) = expected(s) else {
         return broken_at(s);
     };
-    if s.reader.over {
-        return broken_at(s);
-    }
     let n = s.reader.fill;
-    if MOST_CHARS < n {
+    if s.reader.over || MOST_CHARS < n {
         return broken_at(s);
     }
-    let r = s.reader;
-    let h = r.held;
-    if !is_next(k, s.left.edition, &h[..n]) {
+    let line = &s.reader.held[..n];
+    if !is_next(k, s.left.edition, line) {
         return broken_at(s);
     }
-    let b = bytes_in(&h[..n]);
-    next_line(k, b, s)
+    next_line(k, first_bytes(line), s)
 }
 
 // A character of the line.
 fn with_character(s: Shape, b: u8) -> Shape
     ensures { result ≡ shape_push s b }
 {
-    let r = s.reader;
     Shape {
-        reader: pushed(r, b),
+        reader: lines::pushed(s.reader, b),
         ..s
+    }
+}
+
+// The shape after one byte more; once broken it stays as it is.
+#[tactic(auto, unfolding(crate::specs::Walk::shape_after))]
+fn after(s: Shape, b: u8) -> Shape
+    ensures { result ≡ shape_after editions s b }
+{
+    if s.broken {
+        s
+    } else if b == LINE_FEED {
+        line_ended(s)
+    } else {
+        with_character(s, b)
     }
 }
 
@@ -304,39 +219,13 @@ fn with_character(s: Shape, b: u8) -> Shape
 pub fn walk(s: Shape, piece: &[u8]) -> Shape
     ensures { result ≡ walked s piece.now }
 {
-    let mut q = s;
-    let mut i: usize = 0;
-    while i < piece.len() {
-        if q.broken {
-            return q;
-        }
-        let b = piece[i];
-        i += 1;
-        if b == lines::LINE_FEED {
-            q = line_ended(q);
-            continue;
-        }
-        q = with_character(q, b);
-    }
-    q
+    piece.iter().fold(s, |q, b| after(q, *b))
 }
 
 // Whether the text that was read has the shape of a saved form: it isn't broken, no line is begun, and nothing is due.
+#[tactic(auto, unfolding(crate::specs::Walk::is_shaped))]
 pub fn is_shaped(s: Shape) -> bool
     ensures { result ≡ is_shaped s }
 {
-    if s.broken {
-        return false;
-    }
-    if s.reader.over {
-        return false;
-    }
-    if s.reader.fill != 0 {
-        return false;
-    }
-    let due = expected(s);
-    match due {
-        Due::Frame(_) => false,
-        Due::End => true,
-    }
+    !s.broken && lines::is_empty(s.reader) && expected(s).is_none()
 }

@@ -9,21 +9,20 @@ mod saves;
 mod say;
 mod tell;
 
-ghost use Rattle.std.specs.Prelude.{◌≡◌, false, ◌≤◌, ◌*◌, length};
+ghost use Rattle.std.specs.Prelude.{◌≡◌, ◌≤◌, length, None, true, refl};
 ghost use Rattle.lines.specs.Texts.{placed};
-ghost use Rattle.replay.specs.Pieces.{answer_line, runs, says};
-ghost use Rattle.lines.specs.Turns.{most_piece, TurnsBy, DrainsBy};
-ghost use Rattle.shell.specs.Loop.{closed_by, finished_by, Poured, Finishes, Answered, TracedAll};
+ghost use Rattle.replay.specs.Pieces.{runs, says};
+ghost use Rattle.lines.specs.Turns.{most_piece};
+ghost use Rattle.shell.specs.Loop.{finished_by, Finishes, Answered, TracedAll};
 ghost use Rattle.shell.specs.AsOrdered.{answers_due, is_quiet_by, is_saved_by, BeginsBy, RunsBy};
 
 use cluster::Cluster;
-use lines::{End, PIECE};
-use orders::{Ordered, Orders};
+use lines::{Broke, PIECE};
+use orders::Orders;
 use replay::Session;
-use saves::Led;
 use std::fs::File;
 use std::rt::Files;
-use streams::{Source, Streams};
+use streams::{Source, Streams, Taker};
 use trails::{Wanted, follow};
 
 // Where the orders are read: what is open at descriptor 7.
@@ -32,18 +31,13 @@ const ORDERS: &str = "/dev/fd/7";
 // Room for the answers to all that is read at once, even where every byte is a line.
 const ROOM: usize = PIECE * replay::ANSWER_LINE;
 
-#[derive(Clone, Copy)]
-pub struct Drained {
-    pub session: Session,
-    pub end: End,
-}
-
-// Writes the first n bytes of the buffer to standard output, and says whether that went well.
-fn write_first(streams: &Streams, out: &[u8], n: usize) -> bool {
-    if out.len() < n {
-        return false;
-    }
-    streams.write(&out[..n])
+// Standard input as it is answered: the record and the line that is being read, and room for the answers to a piece.
+#[derive(Drop)]
+struct Answering<'a> {
+    streams: &'a Streams,
+    quiet: bool,
+    session: Session,
+    out: [u8; ROOM],
 }
 
 // How many of the bytes that answers have are written: none where the run is quiet.
@@ -53,171 +47,105 @@ fn answers_due(quiet: bool, n: usize) -> usize
     if quiet { 0 } else { n }
 }
 
-// A piece is over, by whether its answers were written.
-fn closed(s: Session, wrote: bool) -> Drained
-    ensures { result ≡ closed_by s wrote }
-{
-    if wrote {
-        return Drained {
-            session: s,
-            end: End::More,
-        };
+impl Answering<'_> {
+    // Writes the first n bytes of the answers, as far as they are due, and says whether that went well.
+    fn write(&self, n: usize) -> bool {
+        self.streams
+            .write_first(&self.out, answers_due(self.quiet, n))
     }
-    Drained {
-        session: s,
-        end: End::CannotWrite,
+
+    // All of one piece, in one go: there is room for every answer.
+    fn pour(&mut self, piece: &[u8]) -> bool
+        requires { length piece.now ≤ most_piece }
+        ensures session { self.new.session ≡ runs self.old.session piece.now }
+        ensures output { self.new.out ≡ placed self.old.out 0 (says self.old.session piece.now) }
+    {
+        let f = replay::pour(self.session, piece, &mut self.out);
+        self.session = f.session;
+        self.write(f.wrote)
+    }
+
+    // The end of the input: the rest is answered.
+    fn end(&mut self) -> Option<Cluster>
+        ensures { Finishes self.old.session result }
+    {
+        let f = replay::close(self.session, &mut self.out);
+        finished(self.streams, f.session.cluster, self.write(f.wrote))
     }
 }
 
-// All of one piece, in one go: there is room for every answer.
-fn pour(streams: &Streams, quiet: bool, s: Session, piece: &[u8], out: &mut [u8]) -> Drained
-    requires { answer_line * length piece.now ≤ length out.old }
-    ensures result { Poured s piece.now result }
-    ensures output { out.new ≡ placed out.old 0 (says s piece.now) }
-{
-    let f = replay::pour(s, piece, out);
-    let d = f.session;
-    let n = answers_due(quiet, f.wrote);
-    closed(d, write_first(streams, out, n))
+impl Taker for Answering<'_> {
+    type State = Session;
+
+    ghost state = { λ a. a.session };
+
+    ghost over = { runs };
+
+    ghost writes = { true };
+
+    fn take(&mut self, piece: &[u8]) -> bool {
+        self.pour(piece)
+    }
+
+    ghost over_nothing = { λ s. refl };
 }
 
-// One turn with what a read answered: a short piece is a piece like any other, and only none at all is the end of the input.
-fn turn(
-    streams: &Streams,
-    quiet: bool,
-    s: Session,
-    buffer: &[u8],
-    got: isize,
-    out: &mut [u8],
-) -> Drained
-    requires { answer_line * length buffer.now ≤ length out.old }
-    ensures { TurnsBy runs s buffer.now got result.session result.end }
-{
-    if got == 0 {
-        return Drained {
-            session: s,
-            end: End::Input,
-        };
-    }
-    if got < 0 {
-        return Drained {
-            session: s,
-            end: End::CannotRead,
-        };
-    }
-    let n = io::count(got, buffer);
-    pour(streams, quiet, s, &buffer[..n], out)
-}
-
-// Standard input to its end. The count of turns only makes the loop end: nobody lives to see it run out.
-fn drain(streams: &Streams, quiet: bool, s: Session, out: &mut [u8]) -> Drained
-    requires { answer_line * most_piece ≤ length out.old }
-    ensures { DrainsBy runs s result.session result.end }
-{
-    let mut d = s;
-    let mut turns = u64::MAX;
-    while turns > 0 {
-        let mut buffer = [0; PIECE];
-        let got = streams.read(&mut buffer);
-        let t = turn(streams, quiet, d, &buffer, got, out);
-        let e = t.session;
-        d = e;
-        let end = t.end;
-        let End::More = end else {
-            return Drained {
-                session: d,
-                end: end,
-            };
-        };
-        turns -= 1;
-    }
-    Drained {
-        session: d,
-        end: End::More,
-    }
-}
-
-// The last record: all went well where the last answer was written, and otherwise that is said.
-fn finished(streams: &Streams, c: Cluster, wrote: bool) -> Led
+// The last record, where the last answer was written; otherwise that is said.
+fn finished(streams: &Streams, c: Cluster, wrote: bool) -> Option<Cluster>
     ensures { result ≡ finished_by c wrote }
 {
     if !wrote {
         say::cannot_write(streams);
+        return None;
     }
-    Led {
-        cluster: c,
-        well: wrote,
-    }
+    Some(c)
 }
 
-// The end of the input: the rest is answered.
-fn ended(streams: &Streams, quiet: bool, s: Session, out: &mut [u8]) -> Led
-    requires { answer_line ≤ length out.old }
-    ensures { Finishes s result }
+// Says why the input wasn't answered to its end; then there is no record.
+fn broke_off(streams: &Streams, quiet: bool, why: Broke) -> Option<Cluster>
+    ensures { result ≡ None }
 {
-    let f = replay::close(s, out);
-    let d = f.session;
-    let c = d.cluster;
-    let n = answers_due(quiet, f.wrote);
-    finished(streams, c, write_first(streams, out, n))
-}
-
-// Says why the input wasn't answered to its end.
-fn broke_off(streams: &Streams, quiet: bool, c: Cluster, end: End) -> Led
-    ensures { result ≡ record { cluster = c; well = false } }
-{
-    match end {
-        End::CannotWrite => say::cannot_write(streams),
+    match why {
+        Broke::CannotWrite => say::cannot_write(streams),
         _ => say::cannot_read(streams, quiet),
     }
-    Led {
-        cluster: c,
-        well: false,
-    }
+    None
 }
 
 // All of standard input, answered from the record on; the record after it.
-fn answered(streams: &Streams, quiet: bool, c: Cluster) -> Led
+fn answered(streams: &Streams, quiet: bool, c: Cluster) -> Option<Cluster>
     ensures { Answered c result }
 {
-    let mut out = [0; ROOM];
-    let p = drain(streams, quiet, replay::begin(c), &mut out);
-    let d = p.session;
-    let last = d.cluster;
-    let end = p.end;
-    let End::Input = end else {
-        return broke_off(streams, quiet, last, end);
+    let mut answering = Answering {
+        streams,
+        quiet,
+        session: replay::begin(c),
+        out: [0; ROOM],
     };
-    ended(streams, quiet, d, &mut out)
+    match streams::drain(&mut streams.input(), &mut answering) {
+        Ok(()) => answering.end(),
+        Err(why) => broke_off(streams, quiet, why),
+    }
 }
 
 // All of standard input, traced from the record on; the record after it.
-fn traced(streams: &Streams, w: Wanted, c: Cluster) -> Led
+fn traced(streams: &Streams, w: Wanted, c: Cluster) -> Option<Cluster>
     ensures { TracedAll c result }
 {
-    let t = follow::follow(streams, w, c);
-    let d = t.cluster;
-    let end = t.end;
-    let End::Input = end else {
-        return broke_off(streams, false, d, end);
-    };
-    Led {
-        cluster: d,
-        well: true,
+    match follow::follow(streams, w, c) {
+        Ok(d) => Some(d),
+        Err(why) => broke_off(streams, false, why),
     }
 }
 
 // The record that a run begins with: one that is loaded, or the one before the first start.
-fn first_record(streams: &Streams, source: &mut Source, o: Orders) -> Led
+fn first_record(streams: &Streams, source: &mut Source, o: Orders) -> Option<Cluster>
     ensures { BeginsBy o result }
 {
     if o.load {
         return saves::load(streams, source);
     }
-    Led {
-        cluster: cluster::zero_cluster(),
-        well: true,
-    }
+    Some(cluster::zero_cluster())
 }
 
 // Whether something else is written in the place of answers.
@@ -228,14 +156,10 @@ fn is_quiet(o: Orders) -> bool
 }
 
 // A run as ordered: the record after it. Where there is none to begin with, nothing is read.
-fn run_through(streams: &Streams, source: &mut Source, o: Orders) -> Led
+fn run_through(streams: &Streams, source: &mut Source, o: Orders) -> Option<Cluster>
     ensures { RunsBy o result }
 {
-    let l = first_record(streams, source, o);
-    if !l.well {
-        return l;
-    }
-    let c = l.cluster;
+    let c = first_record(streams, source, o)?;
     if o.trace {
         let w = Wanted {
             brief: o.brief,
@@ -265,22 +189,18 @@ fn loaded_from<R: Files<File = File>>(files: &R, o: Orders) -> Source {
 // A run as ordered, and what is left of it: the table, the plan, and then the saved form, unless one before it couldn't be written.
 fn obey<R: Files<File = File>>(files: &R, streams: &Streams, o: Orders) {
     let mut source = loaded_from(files, o);
-    let l = run_through(streams, &mut source, o);
-    let c = l.cluster;
-    let mut well = l.well;
-    if o.list && well {
-        well = list::table(streams, c);
-    }
-    if o.recover && well {
-        well = recover::plan(streams, c, o.key, o.value);
-    }
+    let Some(c) = run_through(streams, &mut source, o) else {
+        return;
+    };
+    let listed = !o.list || list::table(streams, c);
+    let well = listed && (!o.recover || recover::plan(streams, c, o.key, o.value));
     if is_saved(o, well) {
         saves::store(files, streams, c);
     }
 }
 
 // The orders that were given: none where the descriptor is closed. One byte more than the line has is read, by which a longer text is told.
-fn given<R: Files<File = File>>(files: &R) -> Ordered {
+fn given<R: Files<File = File>>(files: &R) -> Option<Orders> {
     let mut text = [0; orders::ORDER_LINE + 1];
     let mut source = streams::open(files, ORDERS);
     let n = source.read_full(&mut text);
@@ -291,7 +211,7 @@ fn given<R: Files<File = File>>(files: &R) -> Ordered {
 pub fn run<R: Files<File = File>>(files: &R, streams: &Streams) {
     let ordered = given(files);
     match ordered {
-        Ordered::Known(o) => obey(files, streams, o),
-        Ordered::Unknown => say::unknown_orders(streams),
+        Some(o) => obey(files, streams, o),
+        None => say::unknown_orders(streams),
     }
 }

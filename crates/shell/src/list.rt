@@ -1,215 +1,162 @@
 // The table that a person reads after a run: a server's builds, a car each, of its committed beginning, which are safe, and of its whole log
 // where those are others. It only shows what is read elsewhere, so it is tested and not proved.
 use crate::say;
-use clock::Time;
-use cluster::{Cluster, Server};
-use reads::lists;
-use reads::lists::Listed;
-use server_log::rows::KEYS;
+use cluster::{Cluster, Server, sets};
+use reads::lists::{self, Listed};
+use std::fmt::{self, Display, Write};
 use streams::Streams;
 
-// Where the columns of a row begin.
-const ROLE: usize = 8;
+const HEADING: &str =
+    "server  role       term   part       as of          car:build (* not known to be safe yet)\n";
 
-const TERM: usize = 19;
+// How wide the columns of a time and of a car are, and all before the first car.
+const AS_OF: usize = 15;
 
-const PART: usize = 26;
+const CAR: usize = 11;
 
-const AS_OF: usize = 37;
+const BEFORE_CARS: usize = 52;
 
-const FIRST_CAR: usize = 52;
+// How many cars a row has.
+const CARS: usize = 4;
 
-const LAST_CAR: usize = 85;
+// How many characters are written.
+#[derive(Drop)]
+struct Width(usize);
 
-// How far one car's column is from the next.
-const STEP: usize = 11;
+impl Write for Width {
+    fn write_str(&mut self, s: &str) -> fmt::Result {
+        self.0 = self.0.saturating_add(s.len());
+        Ok(())
+    }
+}
 
-// How many characters a row has room for, its line feed among them.
-const WIDTH: usize = 96;
+// The blanks that fill a column after what is displayed in it.
+fn gap<D: Display + Drop>(column: usize, words: D) -> usize {
+    let mut width = Width(0);
+    let _ = width.write(words);
+    column.saturating_sub(width.0)
+}
 
-// A row of the table: its characters, where the next of them and the next car go, and whether all before it could be written.
+// A car and its build; one that isn't known to be safe has a star.
 #[derive(Clone, Copy)]
-struct Row {
-    text: [u8; WIDTH],
-    fill: usize,
-    car: usize,
-    wrote: bool,
+struct Car {
+    key: usize,
+    value: u16,
+    safe: bool,
 }
 
-fn blank(wrote: bool) -> Row {
-    Row {
-        text: [b' '; WIDTH],
-        fill: 0,
-        car: FIRST_CAR,
-        wrote: wrote,
+impl Display for Car {
+    fn fmt<W: Write>(&self, f: &mut fmt::Formatter<W>) -> fmt::Result {
+        let star = if self.safe { "" } else { "*" };
+        write!(f, "{}:{}{star}", self.key, self.value)
     }
 }
 
-fn to_column(r: Row, column: usize) -> Row {
-    let mut q = r;
-    q.fill = column;
-    q
+// The rows of one part of a log, from its name on.
+#[derive(Clone, Copy)]
+struct Part<'a> {
+    name: &'static str,
+    listed: &'a Listed,
+    safe: &'a Listed,
 }
 
-// The row with these characters, as far as there is room.
-fn put(r: Row, words: &[u8]) -> Row {
-    let mut q = r;
-    let mut at = r.fill;
-    let mut i: usize = 0;
-    while i < words.len() && at < WIDTH {
-        let character = words[i];
-        q.text[at] = character;
-        at += 1;
-        i += 1;
-    }
-    q.fill = at;
-    q
-}
-
-fn number(r: Row, n: usize) -> Row {
-    let mut digits = [0u8; 20];
-    let k = io::decimal(n as u64, &mut digits);
-    put(r, &digits[..k])
-}
-
-fn time(r: Row, t: Time) -> Row {
-    let p = number(put(r, b"("), t.p as usize);
-    let l = number(put(p, b","), t.l as usize);
-    put(l, b")")
-}
-
-// Writes the row, where all before it could be written, and begins another.
-fn next(streams: &Streams, r: Row) -> Row {
-    let q = put(r, b"\n");
-    let text = q.text;
-    let n = q.fill;
-    blank(q.wrote && crate::write_first(streams, &text, n))
-}
-
-// The row with a car and its build in a column; one that isn't known to be safe has a star.
-fn with_car(r: Row, column: usize, key: usize, value: u16, safe: u16) -> Row {
-    let named = put(number(to_column(r, column), key), b":");
-    let built = number(named, value as usize);
-    let mut q = built;
-    if value != safe {
-        q = put(built, b"*");
-    }
-    if column < LAST_CAR {
-        q.car = column + STEP;
-    } else {
-        q.car = WIDTH;
-    }
-    q
-}
-
-// The same in the next column, which is in another row where this one is full.
-fn car(streams: &Streams, r: Row, key: usize, value: u16, safe: u16) -> Row {
-    let column = r.car;
-    if LAST_CAR < column {
-        return with_car(next(streams, r), FIRST_CAR, key, value, safe);
-    }
-    with_car(r, column, key, value, safe)
-}
-
-fn cars(streams: &Streams, r: Row, values: [u16; KEYS], safe: [u16; KEYS]) -> Row {
-    let mut q = r;
-    let mut key: usize = 0;
-    while key < KEYS {
-        let value = values[key];
-        if 0 < value {
-            q = car(streams, q, key, value, safe[key]);
+impl Display for Part<'_> {
+    fn fmt<W: Write>(&self, f: &mut fmt::Formatter<W>) -> fmt::Result {
+        let time = self.listed.time;
+        let values = &self.listed.latest.values;
+        write!(f, "{:<11}{time}{:2$}", self.name, "", gap(AS_OF, time))?;
+        let mut blanks = 0;
+        let cars = values.iter().zip(&self.safe.latest.values).enumerate();
+        for (n, (key, (value, safe))) in cars.filter(|car| *car.1.0 != 0).enumerate() {
+            if 0 < n && n % CARS == 0 {
+                f.write_str("\n")?;
+                blanks = BEFORE_CARS;
+            }
+            let car = Car {
+                key,
+                value: *value,
+                safe: value == safe,
+            };
+            write!(f, "{:blanks$}{car}", "")?;
+            blanks = gap(CAR, car);
         }
-        key += 1;
-    }
-    q
-}
-
-// Writes the rows of one part of a log.
-fn part(streams: &Streams, r: Row, words: &[u8], l: Listed, safe: [u16; KEYS]) -> Row {
-    let t = l.time;
-    let latest = l.latest;
-    let values = latest.values;
-    let named = put(to_column(r, PART), words);
-    let timed = time(to_column(named, AS_OF), t);
-    let q = cars(streams, timed, values, safe);
-    if q.car == FIRST_CAR {
-        return next(streams, put(to_column(q, FIRST_CAR), b"no build"));
-    }
-    next(streams, q)
-}
-
-fn differ(a: [u16; KEYS], b: [u16; KEYS]) -> bool {
-    let mut key: usize = 0;
-    while key < KEYS {
-        if a[key] != b[key] {
-            return true;
+        if values.iter().all(|value| *value == 0) {
+            f.write_str("no build")?;
         }
-        key += 1;
+        f.write_str("\n")
     }
-    false
 }
 
-// A follower is told from a secondary that votes.
-fn role(r: Row, primary: bool, votes: bool) -> Row {
-    if primary {
-        return put(r, b"primary");
-    }
-    if votes {
-        return put(r, b"secondary");
-    }
-    put(r, b"follower")
+// The rows of a server. A follower is told from a secondary that votes.
+#[derive(Clone, Copy)]
+struct Rows<'a> {
+    number: usize,
+    votes: bool,
+    server: &'a Server,
 }
 
-// Writes the rows of a server's committed beginning.
-fn committed(streams: &Streams, r: Row, s: Server, l: Listed) -> Row {
-    if s.head.commit == 0 {
-        return next(streams, put(to_column(r, PART), b"committed  nothing"));
+impl Display for Rows<'_> {
+    fn fmt<W: Write>(&self, f: &mut fmt::Formatter<W>) -> fmt::Result {
+        let h = self.server.head;
+        let committed = &lists::committed_list(*self.server);
+        let whole = &lists::whole_list(*self.server);
+        let role = match (h.primary, self.votes) {
+            (true, _) => "primary",
+            (false, true) => "secondary",
+            (false, false) => "follower",
+        };
+        write!(f, "{:<8}{role:<11}{:<7}", self.number, h.term)?;
+        if h.commit == 0 {
+            f.write_str("committed  nothing\n")?;
+        } else {
+            let part = Part {
+                name: "committed",
+                listed: committed,
+                safe: committed,
+            };
+            write!(f, "{part}")?;
+        }
+        if whole.latest.values == committed.latest.values {
+            return Ok(());
+        }
+        let part = Part {
+            name: "whole log",
+            listed: whole,
+            safe: committed,
+        };
+        write!(f, "{:26}{part}", "")
     }
-    let latest = l.latest;
-    let safe = latest.values;
-    part(streams, r, b"committed", l, safe)
 }
 
-// Writes a server's rows, where all before them could be written; whether they could.
-fn server(streams: &Streams, i: usize, votes: bool, s: Server, wrote: bool) -> bool {
-    let covered = lists::committed_list(s);
-    let whole = lists::whole_list(s);
-    let committed_row = covered.latest;
-    let whole_row = whole.latest;
-    let safe = committed_row.values;
-    let values = whole_row.values;
-    let numbered = number(blank(wrote), i);
-    let named = role(to_column(numbered, ROLE), s.head.primary, votes);
-    let begun = number(to_column(named, TERM), s.head.term as usize);
-    let first = committed(streams, begun, s, covered);
-    if !differ(values, safe) {
-        return first.wrote;
+// The whole table: the rows of each server.
+#[derive(Clone, Copy)]
+struct Whole<'a>(&'a Cluster);
+
+impl Display for Whole<'_> {
+    fn fmt<W: Write>(&self, f: &mut fmt::Formatter<W>) -> fmt::Result {
+        let c = self.0;
+        f.write_str(HEADING)?;
+        for (number, server) in c.servers.iter().take(c.count).enumerate() {
+            let rows = Rows {
+                number,
+                votes: sets::does_vote(c.followers, number),
+                server,
+            };
+            write!(f, "{rows}")?;
+        }
+        Ok(())
     }
-    let last = part(streams, first, b"whole log", whole, safe);
-    last.wrote
 }
 
 // Writes the table, or says why it can't be; whether it is written.
 pub(crate) fn table(streams: &Streams, c: Cluster) -> bool {
-    let count = c.count;
-    if count == 0 {
-        say::nothing_to_list(streams);
+    if c.count == 0 {
+        streams.eprint(say::NOTHING_TO_LIST);
         return false;
     }
-    let mut wrote = streams.write(
-        b"server  role       term   part       as of          car:build (* not known to be safe yet)\n",
-    );
-    let mut i: usize = 0;
-    while i < cluster::MOST_SERVERS {
-        if i < count {
-            let s = c.servers[i];
-            let votes = cluster::sets::does_vote(c.followers, i);
-            wrote = server(streams, i, votes, s, wrote);
-        }
-        i += 1;
-    }
+    let wrote = streams.print(Whole(&c));
     if !wrote {
-        say::cannot_list(streams);
+        streams.eprint(say::CANNOT_LIST);
     }
     wrote
 }

@@ -1,29 +1,26 @@
 -- Appending one entry, stamped by the tick: what a write and an entry that writes nothing have in common. Assumes nothing.
-use Rattle.std.specs.Prelude.{[], ◌∷◌, Bool, true, false, ℕ}
+use Rattle.std.specs.Prelude.{[], ◌∷◌, Bool, true, false, ℕ, Option, Some, None}
 use Rattle.clock.specs.declared.Time.{Time}
-use Rattle.clock.specs.declared.Ticked.{Ticked}
-use Rattle.clock.specs.declared.Ticked.TheVariants.{To, AtLimit}
 use Rattle.clock.specs.Times.{zero_time, tick_of}
 use Rattle.server_log.specs.declared.Entry.{Entry}
 use Rattle.server_log.specs.Logs.{length_of, has_room, appended}
 use Rattle.server_log.specs.Rows.{latest_after}
 use Rattle.cluster.specs.declared.Server.{Server}
 use Rattle.cluster.specs.Servers.{with_time, with_head, with_log, with_whole}
-use Rattle.steps.specs.declared.Sends.TheVariants.{Nothing}
 use Rattle.steps.specs.declared.Stepped.{Stepped}
 use Rattle.steps.specs.declared.Answer.TheVariants as A
 use Rattle.steps.specs.declared.Refusal.TheVariants as R
 use Rattle.steps.specs.Refusals.{Rules, decided}
-use Rattle.steps.specs.Answers.{refusing}
+use Rattle.steps.specs.Answers.{refusing, answering}
 
 -- the tick can be made, and its time
-abbrev pub ticks : Ticked → Bool
-ticks (To t) = true
-ticks AtLimit = false
+abbrev pub ticks : Option Time → Bool
+ticks (Some t) = true
+ticks None = false
 
-abbrev pub tick_time : Ticked → Time
-tick_time (To t) = t
-tick_time AtLimit = zero_time
+abbrev pub tick_time : Option Time → Time
+tick_time (Some t) = t
+tick_time None = zero_time
 
 -- a primary; its log not full; refusal 7 where l is at its limit and the tick from this time must raise it
 abbrev pub append_rules : Server → Time → Rules
@@ -46,7 +43,7 @@ stamped_of s key value t =
 -- the answer is the entry's position, term and time
 abbrev pub stamp_done : Server → ℕ → ℕ → Time → Stepped
 stamp_done s key value t =
-    record { server = stamped_of s key value t; answer = A.Entry (length_of (appended s.log (new_entry s key value t))) s.head.term t; sends = Nothing }
+    answering (stamped_of s key value t) (A.Entry (length_of (appended s.log (new_entry s key value t))) s.head.term t)
 
 abbrev pub append_done : Server → ℕ → ℕ → Time → Stepped
 append_done s key value from = stamp_done s key value (tick_time (tick_of s.head.wall from))

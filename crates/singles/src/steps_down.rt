@@ -3,7 +3,7 @@ ghost use Rattle.std.specs.Prelude.{◌≡◌};
 ghost use Rattle.singles.specs.StepsDown.{steps_down_of};
 
 use cluster::{Head, Server};
-use steps::{Answer, Refusal, Sends, Stepped};
+use steps::{Answer, Refusal, Stepped};
 
 pub fn steps_down(s: Server) -> Stepped
     ensures { result ≡ steps_down_of s }
@@ -11,16 +11,9 @@ pub fn steps_down(s: Server) -> Stepped
     if !s.head.primary {
         return steps::refuse(s, Refusal::WrongRole);
     }
-    let h = s.head;
-    Stepped {
-        server: Server {
-            head: Head {
-                primary: false,
-                ..h
-            },
-            ..s
-        },
-        answer: Answer::Done,
-        sends: Sends::Nothing,
-    }
+    let head = Head {
+        primary: false,
+        ..s.head
+    };
+    steps::answered(Server { head, ..s }, Answer::Done)
 }

@@ -3,36 +3,36 @@ ghost use Rattle.std.specs.Prelude.{◌≡◌};
 ghost use Rattle.singles.specs.TakesReport.{forwards, takes_report_of};
 
 use cluster::Server;
-use steps::{Answer, Refusal, Sends, Stepped};
+use steps::{Answer, Refusal, Sent, Stepped};
 
 // What becomes of the oldest report: a secondary with a source sends it on.
-pub fn sends(s: Server) -> Sends
+#[tactic(auto, unfolding(crate::specs::TakesReport::forwards))]
+pub fn sends(s: Server) -> Option<Sent>
     ensures { result ≡ forwards s }
 {
     if s.head.primary {
-        return Sends::Nothing;
+        return None;
     }
-    let m = s.mail;
-    let source = m.source;
-    if source == 0 {
-        return Sends::Nothing;
-    }
-    let q = m.queue;
-    Sends::To(source - 1, mail::report_at(q, 0))
+    let to = s.mail.source?;
+    Some(Sent {
+        to,
+        report: mail::report_at(s.mail.queue, 0),
+    })
 }
 
 pub fn takes_report(s: Server) -> Stepped
     ensures { result ≡ takes_report_of s }
 {
-    let m = s.mail;
-    let q = m.queue;
+    let q = s.mail.queue;
     if q.len < 1 {
         return steps::refuse(s, Refusal::ConditionUnmet);
     }
     let r = mail::report_at(q, 0);
-    let told = mail::taken(mail::noted(m, r));
     Stepped {
-        server: Server { mail: told, ..s },
+        server: Server {
+            mail: mail::taken(mail::noted(s.mail, r)),
+            ..s
+        },
         answer: Answer::Done,
         sends: sends(s),
     }

@@ -3,7 +3,7 @@ ghost use Rattle.std.specs.Prelude.{◌≡◌};
 ghost use Rattle.singles.specs.WallClock.{wall_clock_of};
 
 use cluster::{Head, Server};
-use steps::{Answer, Refusal, Sends, Stepped};
+use steps::{Answer, Refusal, Stepped};
 
 pub fn wall_clock(s: Server) -> Stepped
     ensures { result ≡ wall_clock_of s }
@@ -11,16 +11,9 @@ pub fn wall_clock(s: Server) -> Stepped
     if clock::LIMIT <= s.head.wall {
         return steps::refuse(s, Refusal::AtLimit);
     }
-    let h = s.head;
-    Stepped {
-        server: Server {
-            head: Head {
-                wall: h.wall + 1,
-                ..h
-            },
-            ..s
-        },
-        answer: Answer::Done,
-        sends: Sends::Nothing,
-    }
+    let head = Head {
+        wall: s.head.wall + 1,
+        ..s.head
+    };
+    steps::answered(Server { head, ..s }, Answer::Done)
 }

@@ -14,10 +14,7 @@ const MOST_AHEAD: u16 = 600;
 fn near(wall: u16, p: u16) -> bool
     ensures { result ≡ leb p (wall + most_ahead) }
 {
-    if p <= wall {
-        return true;
-    }
-    p - wall <= MOST_AHEAD
+    p.saturating_sub(wall) <= MOST_AHEAD
 }
 
 pub fn writes(s: Server, key: u8, value: u16, client: Time) -> Stepped

@@ -1,4 +1,4 @@
 -- Laws of decided steps. Assumes nothing.
 pub mod Decided
-pub mod Numbers
+pub mod Positions
 pub mod Results

@@ -1,5 +1,6 @@
 -- The refusals' numbers, and a kind's ordered list of tests: the first that fails gives its refusal. Assumes nothing.
-use Rattle.std.specs.Prelude.{List, [], ◌∷◌, Bool, cond, ℕ}
+use Rattle.std.specs.Prelude.{◌≡◌, ◌<◌, List, [], ◌∷◌, Bool, cond, ℕ, Result, MatchResult}
+use Rattle.steps.specs.declared.NoRefusal.{NoRefusal}
 use Rattle.steps.specs.declared.Refusal.{Refusal}
 use Rattle.steps.specs.declared.Refusal.TheVariants.{NotAFrame, IllFormed, OutOfRange, WrongRole, ConditionUnmet, LogFull, AtLimit, NotYet, BelowCommitPoint, NoSuchEntry, ClockAhead, Retired}
 
@@ -16,6 +17,10 @@ refusal_number BelowCommitPoint = 9
 refusal_number NoSuchEntry = 10
 refusal_number ClockAhead = 11
 refusal_number Retired = 12
+
+-- the refusal that has the number n, or n itself where none has it: 0, or above 12
+abbrev pub NamesRefusal : ℕ → Result Refusal NoRefusal → Type 0
+NamesRefusal n named = MatchResult named (λ r. refusal_number r ≡ n) (λ e. (e.0 ≡ n) × (0 < n → 12 < n))
 
 -- what has to hold, each with the refusal that is given where it doesn't
 abbrev pub Rules : Type 0

@@ -2,7 +2,8 @@
 #![tactic(auto)]
 
 ghost use Rattle.std.specs.Prelude.{◌≡◌};
-ghost use Rattle.steps.specs.Answers.{refusing, refusing_all, telling_of, number_of, is_refused};
+ghost use Rattle.steps.specs.Refusals.{refusal_number, NamesRefusal};
+ghost use Rattle.steps.specs.Answers.{answering, refusing, refusing_all, telling_of, number_of, is_refused};
 
 use clock::Time;
 use cluster::{Cluster, Server};
@@ -60,7 +61,7 @@ pub struct Frame {
 }
 
 // In the order of their numbers, from 1.
-#[derive(Clone, Copy)]
+#[derive(Clone, Copy, PartialEq, Eq)]
 pub enum Refusal {
     NotAFrame,
     IllFormed,
@@ -76,7 +77,57 @@ pub enum Refusal {
     Retired,
 }
 
+// A byte that is no refusal's number.
+#[derive(Clone, Copy, PartialEq, Eq)]
+pub struct NoRefusal(pub u8);
+
+impl From<Refusal> for u8 {
+    ghost from_gives = { λ r n. n ≡ refusal_number r };
+
+    fn from(r: Refusal) -> u8 {
+        match r {
+            Refusal::NotAFrame => 1,
+            Refusal::IllFormed => 2,
+            Refusal::OutOfRange => 3,
+            Refusal::WrongRole => 4,
+            Refusal::ConditionUnmet => 5,
+            Refusal::LogFull => 6,
+            Refusal::AtLimit => 7,
+            Refusal::NotYet => 8,
+            Refusal::BelowCommitPoint => 9,
+            Refusal::NoSuchEntry => 10,
+            Refusal::ClockAhead => 11,
+            Refusal::Retired => 12,
+        }
+    }
+}
+
+impl TryFrom<u8> for Refusal {
+    type Error = NoRefusal;
+
+    ghost try_from_gives = { NamesRefusal };
+
+    fn try_from(n: u8) -> Result<Self, NoRefusal> {
+        match n {
+            1 => Ok(Refusal::NotAFrame),
+            2 => Ok(Refusal::IllFormed),
+            3 => Ok(Refusal::OutOfRange),
+            4 => Ok(Refusal::WrongRole),
+            5 => Ok(Refusal::ConditionUnmet),
+            6 => Ok(Refusal::LogFull),
+            7 => Ok(Refusal::AtLimit),
+            8 => Ok(Refusal::NotYet),
+            9 => Ok(Refusal::BelowCommitPoint),
+            10 => Ok(Refusal::NoSuchEntry),
+            11 => Ok(Refusal::ClockAhead),
+            12 => Ok(Refusal::Retired),
+            _ => Err(NoRefusal(n)),
+        }
+    }
+}
+
 // An answer carries either its numbers or one refusal, never both.
+// Kept: its name stands in the theorems, and 01 names the form of an enum of answers.
 #[derive(Clone, Copy)]
 pub enum Answer {
     // nothing to tell
@@ -92,18 +143,22 @@ pub enum Answer {
     Refused(Refusal),
 }
 
-// What an answer frame says: number, term and time, or a refusal.
+// What an answer frame says of what is done.
 #[derive(Clone, Copy)]
-pub enum Telling {
-    Numbers(u16, u16, Time),
-    Refusing(Refusal),
+pub struct Numbers {
+    pub number: u16,
+    pub term: u16,
+    pub time: Time,
 }
 
-// What a step of one server sends: nothing, or a report to a server.
+// What an answer frame says: its numbers, or a refusal.
+pub type Telling = Result<Numbers, Refusal>;
+
+// A report, and the server that it is sent to.
 #[derive(Clone, Copy)]
-pub enum Sends {
-    Nothing,
-    To(usize, Report),
+pub struct Sent {
+    pub to: usize,
+    pub report: Report,
 }
 
 // What a step of one server gives.
@@ -111,7 +166,7 @@ pub enum Sends {
 pub struct Stepped {
     pub server: Server,
     pub answer: Answer,
-    pub sends: Sends,
+    pub sends: Option<Sent>,
 }
 
 // What a step of the whole record gives.
@@ -121,15 +176,22 @@ pub struct Outcome {
     pub answer: Answer,
 }
 
+// The server and its answer; nothing is sent.
+pub fn answered(s: Server, a: Answer) -> Stepped
+    ensures { result ≡ answering s a }
+{
+    Stepped {
+        server: s,
+        answer: a,
+        sends: None,
+    }
+}
+
 // The server as it was, and the refusal.
 pub fn refuse(s: Server, r: Refusal) -> Stepped
     ensures { result ≡ refusing s r }
 {
-    Stepped {
-        server: s,
-        answer: Answer::Refused(r),
-        sends: Sends::Nothing,
-    }
+    answered(s, Answer::Refused(r))
 }
 
 // The record as it was, and the refusal.
@@ -153,26 +215,20 @@ pub fn number(n: usize) -> u16
 pub fn told(a: Answer) -> Telling
     ensures { result ≡ telling_of a }
 {
-    match a {
-        Answer::Done => Telling::Numbers(0, 0, clock::ZERO_TIME),
-        Answer::Elected(term) => Telling::Numbers(0, term, clock::ZERO_TIME),
-        Answer::Reached(n) => Telling::Numbers(number(n), 0, clock::ZERO_TIME),
-        Answer::Entry(n, term, time) => Telling::Numbers(number(n), term, time),
-        Answer::Value(value, time) => Telling::Numbers(value, 0, time),
-        Answer::Refused(r) => Telling::Refusing(r),
-    }
+    let (number, term, time) = match a {
+        Answer::Done => (0, 0, clock::ZERO_TIME),
+        Answer::Elected(term) => (0, term, clock::ZERO_TIME),
+        Answer::Reached(n) => (number(n), 0, clock::ZERO_TIME),
+        Answer::Entry(n, term, time) => (number(n), term, time),
+        Answer::Value(value, time) => (value, 0, time),
+        Answer::Refused(r) => return Err(r),
+    };
+    Ok(Numbers { number, term, time })
 }
 
 // Whether the answer is a refusal.
 pub fn is_refused(a: Answer) -> bool
     ensures { result ≡ is_refused a }
 {
-    match a {
-        Answer::Done => false,
-        Answer::Elected(_) => false,
-        Answer::Reached(_) => false,
-        Answer::Entry(_, _, _) => false,
-        Answer::Value(_, _) => false,
-        Answer::Refused(_) => true,
-    }
+    matches!(a, Answer::Refused(_))
 }

@@ -1,4 +1,5 @@
 -- The functions that make a pair, and that it is the line and its answer. Assumes nothing.
+pub mod Cut
 pub mod Each
 pub mod Decimal
 pub mod Texts

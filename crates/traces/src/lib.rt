@@ -3,7 +3,7 @@
 
 ghost use Rattle.std.specs.Prelude.{◌≡◌};
 ghost use Rattle.traces.specs.Shown.{is_plain, shown_byte, shown_bytes, shown_more};
-ghost use Rattle.traces.specs.Writing.{nothing_kept, kept_with, kept_after, kept_over, held_in, no_pair, put_of, put_all, pair_made};
+ghost use Rattle.traces.specs.Writing.{nothing_kept, kept_after, kept_over, held_in, no_pair, put_of, put_all, pair_made};
 
 use lines::LINE_FEED;
 use steps::Answer;
@@ -17,6 +17,7 @@ pub const ROOM: usize = 202;
 const BACKSLASH: u8 = b'\\';
 
 // The first bytes of a line, how many there are, and how many came after them.
+// Kept: an array with a length beside it, since memory is fixed, a byte more can't fail, and a line goes by value (arrayvec's `ArrayVec` isn't Copy).
 #[derive(Clone, Copy)]
 pub struct CutLine {
     pub held: [u8; SHOWN],
@@ -25,6 +26,7 @@ pub struct CutLine {
 }
 
 // A pair's characters, and how many there are.
+// Kept: as for a line.
 #[derive(Clone, Copy)]
 pub struct Pair {
     pub text: [u8; ROOM],
@@ -42,31 +44,20 @@ pub fn nothing_kept() -> CutLine
     }
 }
 
-// One byte of a line more.
-fn kept_with(k: CutLine, b: u8) -> CutLine
-    ensures { result ≡ kept_with k b }
-{
-    let at = k.fill;
-    if at < SHOWN {
-        let mut q = k;
-        q.held[at] = b;
-        q.fill = at + 1;
-        return q;
+impl CutLine {
+    // One byte more: a line feed begins the next line, any other is kept where there is room, and else counted.
+    fn take(&mut self, b: u8)
+        ensures { self.new ≡ kept_after self.old b }
+    {
+        if b == LINE_FEED {
+            *self = nothing_kept();
+        } else if self.fill < SHOWN {
+            self.held[self.fill] = b;
+            self.fill += 1;
+        } else {
+            self.more = lines::one_more(self.more);
+        }
     }
-    CutLine {
-        more: lines::one_more(k.more),
-        ..k
-    }
-}
-
-// The same of any byte: a line feed begins the next line.
-fn kept_after(k: CutLine, b: u8) -> CutLine
-    ensures { result ≡ kept_after k b }
-{
-    if b == LINE_FEED {
-        return nothing_kept();
-    }
-    kept_with(k, b)
 }
 
 // What is kept after some bytes.
@@ -74,11 +65,8 @@ pub fn keep(k: CutLine, bytes: &[u8]) -> CutLine
     ensures { result ≡ kept_over k bytes.now }
 {
     let mut q = k;
-    let mut i: usize = 0;
-    while i < bytes.len() {
-        let p = q;
-        q = kept_after(p, bytes[i]);
-        i += 1;
+    for b in bytes {
+        q.take(*b);
     }
     q
 }
@@ -87,101 +75,87 @@ pub fn keep(k: CutLine, bytes: &[u8]) -> CutLine
 fn is_plain(b: u8) -> bool
     ensures { result ≡ is_plain b }
 {
-    if b < 33 {
-        return false;
-    }
-    if 126 < b {
-        return false;
-    }
-    b != BACKSLASH
+    b.is_ascii_graphic() && b != BACKSLASH
 }
 
-// One character more, where there is room.
-fn put(p: Pair, b: u8) -> Pair
-    ensures { result ≡ put_of p b }
-{
-    let at = p.fill;
-    if at < ROOM {
-        let mut q = p;
-        q.text[at] = b;
-        q.fill = at + 1;
-        return q;
+impl Pair {
+    // One character more, where there is room.
+    fn put(&mut self, b: u8)
+        ensures { self.new ≡ put_of self.old b }
+    {
+        if self.fill < ROOM {
+            self.text[self.fill] = b;
+            self.fill += 1;
+        }
     }
-    p
-}
 
-// The characters of a byte of a line.
-fn put_byte(p: Pair, b: u8) -> Pair
-    ensures { result ≡ put_all p (shown_byte b) }
-{
-    if is_plain(b) {
-        return put(p, b);
+    // Characters as they are.
+    fn put_all(&mut self, characters: &[u8])
+        ensures { self.new ≡ put_all self.old characters.now }
+    {
+        for b in characters {
+            self.put(*b);
+        }
     }
-    let q = put(put(p, BACKSLASH), b'x');
-    put(put(q, hex_text::char_of(b / 16)), hex_text::char_of(b % 16))
-}
 
-// The characters of bytes of a line.
-fn put_bytes(p: Pair, bytes: &[u8]) -> Pair
-    ensures { result ≡ put_all p (shown_bytes bytes.now) }
-{
-    let mut q = p;
-    let mut i: usize = 0;
-    while i < bytes.len() {
-        let o = q;
-        q = put_byte(o, bytes[i]);
-        i += 1;
+    // The characters of a byte of a line.
+    fn put_byte(&mut self, b: u8)
+        ensures { self.new ≡ put_all self.old (shown_byte b) }
+    {
+        if is_plain(b) {
+            self.put(b);
+        } else {
+            self.put_all(&[
+                BACKSLASH,
+                b'x',
+                hex_text::char_of(b / 16),
+                hex_text::char_of(b % 16),
+            ]);
+        }
     }
-    q
-}
 
-// Characters as they are.
-fn put_all(p: Pair, characters: &[u8]) -> Pair
-    ensures { result ≡ put_all p characters.now }
-{
-    let mut q = p;
-    let mut i: usize = 0;
-    while i < characters.len() {
-        let o = q;
-        q = put(o, characters[i]);
-        i += 1;
+    // The characters of bytes of a line.
+    fn put_bytes(&mut self, bytes: &[u8])
+        ensures { self.new ≡ put_all self.old (shown_bytes bytes.now) }
+    {
+        for b in bytes {
+            self.put_byte(*b);
+        }
     }
-    q
-}
 
-// How many bytes more there are.
-fn put_more(p: Pair, n: usize) -> Pair
-    ensures { result ≡ put_all p (shown_more n) }
-{
-    if n == 0 {
-        return p;
+    // The bytes that are kept of a line.
+    fn put_kept(&mut self, k: CutLine)
+        ensures { self.new ≡ put_all self.old (shown_bytes (held_in k)) }
+    {
+        self.put_bytes(&k.held[..k.fill.min(SHOWN)]);
     }
-    let mut digits = [0u8; 20];
-    let k = io::decimal(n as u64, &mut digits);
-    put_all(put(put(p, BACKSLASH), b'+'), &digits[..k])
-}
 
-// The bytes that are kept of a line.
-fn put_held(p: Pair, k: CutLine) -> Pair
-    ensures { result ≡ put_all p (shown_bytes (held_in k)) }
-{
-    let held = k.held;
-    let n = k.fill;
-    if n < SHOWN {
-        return put_bytes(p, &held[..n]);
+    // How many bytes more there are.
+    fn put_more(&mut self, n: usize)
+        ensures { self.new ≡ put_all self.old (shown_more n) }
+    {
+        if n != 0 {
+            let mut digits = [0u8; 20];
+            let k = io::decimal(n as u64, &mut digits);
+            self.put(BACKSLASH);
+            self.put(b'+');
+            self.put_all(&digits[..k]);
+        }
     }
-    put_bytes(p, &held)
 }
 
 // The pair of what is kept of a line, and its answer.
 pub fn pair_line(k: CutLine, a: Answer) -> Pair
     ensures { result ≡ pair_made k a }
 {
-    let none = Pair {
+    let mut p = Pair {
         text: [0; ROOM],
         fill: 0,
     };
-    let shown = put_more(put_held(none, k), k.more);
-    let answer = answers::write_answer(a);
-    put(put_all(put(shown, b' '), &answer), LINE_FEED)
+    p.put_kept(k);
+    p.put_more(k.more);
+    p.put(b' ');
+    p.put_all(&answers::write_answer(a));
+    p.put(LINE_FEED);
+    p
 }

@@ -1,22 +1,22 @@
--- A record's form in a buffer: its first frame, or its saved form in a part that is as long as the longest. Assumes nothing.
+-- A record's form in a buffer: its first frame, or its saved form at the head, which is as long as the longest. Assumes nothing.
+use Rattle.std.proofs.Common.{Result, Ok, Err}
 use mathlib.Core.Path.{◌≡◌, refl, sym, ap, ◌∙◌, subst}
 use mathlib.Core.Bool.{Bool, true, false, cond}
 use mathlib.Core.List.{List, [], ◌∷◌, ◌++◌, append_assoc}
-use Prim.Native.Nat.{ℕ, ◌+◌, ◌-◌, ◌≤◌}
+use Prim.Native.Nat.{ℕ, ◌+◌, ◌≤◌}
 use native.Mathlib.Omega.{arith}
-use lib.ListN.{length, take, drop, replicate, length-append, length-take, length-drop, take-append-drop}
-use lib.Seq.{drop-append-le, drop-drop}
+use lib.ListN.{length, take, drop, replicate, length-append, take-append-drop}
+use lib.Seq.{drop-append-le, length-take-le}
 use borrow.Author.Tests.{ne_eqb, le-ltb}
-use borrow.Rule.Slice.PartMut.{mid_of, put_mid, Post-is, put_same}
 use Rattle.base.proofs.Bools.{not_both}
 use Rattle.hex_text.specs.Lines.{hex_of, over}
 use Rattle.cluster.specs.declared.Cluster.{Cluster}
 use Rattle.cluster.specs.Servers.{server_count}
 use Rattle.cluster.specs.WellFormed.{well_formed}
-use Rattle.lines.specs.Texts.{line_feed}
+use Rattle.lines.specs.Texts.{line_feed, placed}
 use Rattle.steps.specs.declared.Refusal.TheVariants.{IllFormed}
-use Rattle.saved.specs.declared.Saved.{Saved}
-use Rattle.saved.specs.declared.Saved.TheVariants.{Text, NoRoom, Refused}
+use Rattle.saved.specs.declared.NotSaved.{NotSaved}
+use Rattle.saved.specs.declared.NotSaved.TheVariants.{Refused}
 use Rattle.saved.specs.Saved.{save_of}
 use Rattle.saved.specs.Written.{longest, saved_of, saved_out}
 use Rattle.trails.specs.Traces.{first_frame_of, form_by}
@@ -35,83 +35,64 @@ module _ (c : Cluster) (n : ℕ) (line : List ℕ) (m : n ≡ server_count c) (s
   unfolding first_frame_of
   first_some = rw (← m, ne_eqb n 0 some) e
 
-  pub first_put : {out : List ℕ} {at : ℕ} {after : List ℕ} {r : ℕ} → Put (length line) out at after r line → Put first_line out at after r (first_frame_of c)
-  first_put {out = out} {at = at} {after = after} {r = r} p =
+  pub first_put : {out after : List ℕ} {r : ℕ} → Put (length line) out after r line → Put first_line out after r (first_frame_of c)
+  first_put {out = out} {after = after} {r = r} p =
       let long : length line ≡ 9 = ap length e in
-      subst (λ (t : List ℕ). Put first_line out at after r t) first_some (put_wider p first_line (omega arith))
+      subst (λ (t : List ℕ). Put first_line out after r t) first_some (put_wider p first_line (omega arith))
 
 -- ---- its saved form
 
-abbrev pub is_text : Saved → Bool
-is_text (Text n) = true
-is_text NoRoom = false
-is_text (Refused r) = false
+abbrev pub is_text : Result ℕ NotSaved → Bool
+is_text (Ok n) = true
+is_text (Err e) = false
 
--- what is left of the part, and what stands after it
-part_rest : (out : List ℕ) (at n : ℕ) → at + longest ≤ length out → n ≤ longest → drop n (take longest (drop at out)) ++ drop (at + longest) out ≡ drop (at + n) out
-part_rest out at n room h =
-    let l = drop at out in
-    ap (λ (x : List ℕ). drop n (take longest l) ++ x) (sym (drop-drop longest at out))
-    ∙ sym (drop-append-le n (take longest l) (drop longest l) (omega (arith, length-take longest l, length-drop at out)))
-    ∙ ap (drop n) (take-append-drop longest l) ∙ drop-drop n at out
+module _ (c : Cluster) (out : List ℕ) (room : longest ≤ length out) where
+  abbrev head : List ℕ
+  head = take longest out
 
-module _ (c : Cluster) (out : List ℕ) (at : ℕ) (room : at + longest ≤ length out) where
-  abbrev size : ℕ
-  size = at + longest - at
+  head_length : length head ≡ longest
+  head_length = length-take-le longest out room
 
-  abbrev mid : List ℕ
-  mid = mid_of at size out
+  -- what is left of the head, and what stands after it
+  head_rest : (n : ℕ) → n ≤ longest → drop n head ++ drop longest out ≡ drop n out
+  head_rest n h = sym (drop-append-le n head (drop longest out) (omega (arith, head_length))) ∙ ap (drop n) (take-append-drop longest out)
 
-  size_is : size ≡ longest
-  size_is = omega arith
-
-  mid_is : mid ≡ take longest (drop at out)
-  mid_is = ap (λ (k : ℕ). take k (drop at out)) size_is
-
-  mid_length : length mid ≡ longest
-  mid_length = omega (arith, length-take size (drop at out), length-drop at out, size_is)
-
-  module _ (part : List ℕ) (same : length part ≡ length mid) (o : part ≡ saved_out c mid) where
-    after : List ℕ
-    after = put_mid at size out part
-
-    with_form : well_formed c ≡ true → part ≡ save_of c ++ drop (length (save_of c)) mid
+  module _ (part : List ℕ) (same : length part ≡ length head) (o : part ≡ saved_out c head) where
+    with_form : well_formed c ≡ true → part ≡ placed head 0 (save_of c)
     unfolding saved_out
-    with_form w =
-        let z : 0 + length (save_of c) ≡ length (save_of c) = omega arith in
-        o ∙ rw (w, le-ltb (length mid) longest (omega (arith, mid_length))) (ap (λ (k : ℕ). save_of c ++ drop k mid) z)
+    with_form w = o ∙ rw (w, le-ltb (length head) longest (omega (arith, head_length)))
 
-    pub saved_put : (n : ℕ) → Text n ≡ saved_of c (length mid) → Put longest out at (put_mid at size out part) (at + n) (form_by false c)
+    pub saved_put : (n : ℕ) → Ok n ≡ saved_of c (length head) → Put longest out (part ++ drop longest out) n (form_by false c)
     unfolding saved_of form_by
     saved_put n e = go (well_formed c) refl
       where
-        go : (b : Bool) → well_formed c ≡ b → Put longest out at (put_mid at size out part) (at + n) (cond b (save_of c) [])
-        go false w = let q : Text n ≡ Refused IllFormed = e ∙ rw w in not_both (is_text (Refused IllFormed)) (sym (ap is_text q)) refl
+        form : List ℕ
+        form = save_of c
+
+        go : (b : Bool) → well_formed c ≡ b → Put longest out (part ++ drop longest out) n (cond b form [])
+        go false w = let q : Ok n ≡ Err (Refused IllFormed) = e ∙ rw w in not_both (is_text (Err (Refused IllFormed))) (sym (ap is_text q)) refl
         go true w =
-            let q : Text n ≡ Text (length (save_of c)) = e ∙ rw (w, le-ltb (length mid) longest (omega (arith, mid_length))) in
-            let m : n ≡ length (save_of c) = cc in
+            let q : Ok n ≡ Ok (length form) = e ∙ rw (w, le-ltb (length head) longest (omega (arith, head_length))) in
+            let m : n ≡ length form = cc in
             let p = with_form w in
-            let short : length (save_of c) ≤ longest = omega (arith, ap length p, same, mid_length, length-append (save_of c) (drop (length (save_of c)) mid)) in
+            let short : length form ≤ longest = omega (arith, ap length p, same, head_length, length-append form (drop (0 + length form) head)) in
             record {
               buffer =
-                  ap (put_mid at size out) p ∙ ap (λ (l : List ℕ). take at out ++ ((save_of c ++ drop (length (save_of c)) mid) ++ l)) (Post-is at (at + longest) out (omega arith))
-                  ∙ ap (λ (l : List ℕ). take at out ++ l) (append_assoc (save_of c) (drop (length (save_of c)) mid) (drop (at + longest) out))
-                  ∙ ap (λ (l : List ℕ). take at out ++ (save_of c ++ (drop (length (save_of c)) l ++ drop (at + longest) out))) mid_is
-                  ∙ ap (λ (l : List ℕ). take at out ++ (save_of c ++ l)) (part_rest out at (length (save_of c)) room short)
-                  ∙ sym (append_assoc (take at out) (save_of c) (drop (at + length (save_of c)) out));
-              next = omega (arith, m);
+                  ap (λ (l : List ℕ). l ++ drop longest out) p ∙ append_assoc form (drop (0 + length form) head) (drop longest out)
+                  ∙ ap (λ (l : List ℕ). form ++ l) (head_rest (0 + length form) (omega (arith, short)));
+              count = m;
               short = short;
             }
 
-    pub saved_none : (s : Saved) → is_text s ≡ false → s ≡ saved_of c (length mid) → Put longest out at (put_mid at size out part) at (form_by false c)
+    pub saved_none : (s : Result ℕ NotSaved) → is_text s ≡ false → s ≡ saved_of c (length head) → Put longest out (part ++ drop longest out) 0 (form_by false c)
     unfolding saved_of form_by saved_out
     saved_none s t e = go (well_formed c) refl
       where
-        go : (b : Bool) → well_formed c ≡ b → Put longest out at (put_mid at size out part) at (cond b (save_of c) [])
+        go : (b : Bool) → well_formed c ≡ b → Put longest out (part ++ drop longest out) 0 (cond b (save_of c) [])
         go true w =
-            let q : s ≡ Text (length (save_of c)) = e ∙ rw (w, le-ltb (length mid) longest (omega (arith, mid_length))) in
+            let q : s ≡ Ok (length (save_of c)) = e ∙ rw (w, le-ltb (length head) longest (omega (arith, head_length))) in
             not_both (is_text s) (ap is_text q) t
         go false w =
-            let q : part ≡ mid = o ∙ rw w in
-            let same_out : put_mid at size out part ≡ out = ap (put_mid at size out) q ∙ put_same at size out in
-            rw same_out (put_none longest out at)
+            let q : part ≡ head = o ∙ rw w in
+            let same_out : part ++ drop longest out ≡ out = ap (λ (l : List ℕ). l ++ drop longest out) q ∙ take-append-drop longest out in
+            rw same_out (put_none longest out)

@@ -27,11 +27,11 @@ module _ (w : Wanted) (n : ℕ) (c : Cluster) (k : CutLine) (out : List ℕ) (o 
   lined_none h = (rw (lt-ltb (length out) most_line h, answered), rw (lt-ltb (length out) most_line h))
 
   pub lined_some : (p : Pair) (after : List ℕ) (r : ℕ) → most_line ≤ length out → p ≡ pair_made k o.answer
-      → Put most_line out 0 after r (wanted_of w n c o.cluster (text_in p))
+      → Put most_line out after r (wanted_of w n c o.cluster (text_in p))
       → (◌≡◌ {A = Lined} (record { cluster = o.cluster; wrote = r }) (lined_of w n c k (length out))) × (after ≡ lined_out w n c k out)
   unfolding lined_of lined_out
   lined_some p after r h m q =
       let room = le-ltb (length out) most_line h in
       let shown : wanted_of w n c o.cluster (text_in p) ≡ shown_by w n c k = rw (m, answered) in
-      let long : r ≡ length (shown_by w n c k) = omega (arith, q.next, ap length shown) in
+      let long : r ≡ length (shown_by w n c k) = omega (arith, q.count, ap length shown) in
       (rw (room, answered, long), q.buffer ∙ rw (room, shown))

@@ -1,10 +1,11 @@
 -- A trace, read: the answers of its pairs are the answers to the text. Assumes nothing.
 use mathlib.Core.Path.{◌≡◌, refl, sym, ap, ◌∙◌}
 use mathlib.Core.Bool.{Bool, true, false, cond, ◌||◌}
+use Rattle.std.proofs.Common.{None}
 use mathlib.Core.List.{List, [], ◌∷◌, ◌++◌, append_assoc}
 use Prim.Native.Nat.{ℕ, zero, suc, ◌+◌, ◌%◌, ◌/◌, ◌≤◌, min, ◌-◌}
 use native.Mathlib.Omega.{arith}
-use borrow.Author.Tests.{eq-eqb, ne_eqb, le-leb, leb-true}
+use borrow.Author.Tests.{ne_eqb, le-leb, leb-true}
 use lib.Dec.{eqb, ltb, leb}
 use lib.ListN.{length, take}
 use Rattle.io.specs.Digits.{hex_digit_ascii, last_digits}
@@ -172,11 +173,11 @@ module _ (rest : List ℕ) where
 
 -- ---- a whole trace, of all lines
 
-all_wanted : (w : Wanted) (n : ℕ) → w.before ≡ 0 → w.last ≡ 0 → is_wanted w n ≡ true
+all_wanted : (w : Wanted) (n : ℕ) → w.before ≡ 0 → w.last ≡ None → is_wanted w n ≡ true
 unfolding is_wanted
-all_wanted w n b l = rw (b, l, le-leb 0 n (omega arith), eq-eqb 0 0 refl)
+all_wanted w n b l = rw (b, l, le-leb 0 n (omega arith))
 
-read_from : (w : Wanted) (n : ℕ) (c : Cluster) (ls : List (List ℕ)) → w.before ≡ 0 → w.last ≡ 0 → answers_in (lines (trace_from w n c ls)) ≡ answers_to c ls
+read_from : (w : Wanted) (n : ℕ) (c : Cluster) (ls : List (List ℕ)) → w.before ≡ 0 → w.last ≡ None → answers_in (lines (trace_from w n c ls)) ≡ answers_to c ls
 read_from w n c [] b e = refl
 read_from w n c (l ∷ ls) b e =
     let o = answer_to c l in
@@ -189,5 +190,5 @@ read_from w n c (l ∷ ls) b e =
     ∙ pair_read (change ++ rest) l o.answer
     ∙ ap (λ (t : List ℕ). line_of o.answer ++ t) (change_read rest w.brief c o.cluster ∙ read_from w (one_more n) o.cluster ls b e)
 
-pub read_back : (w : Wanted) (c : Cluster) (text : List ℕ) → w.before ≡ 0 → w.last ≡ 0 → answers_in (lines (trace_of w c text)) ≡ answers c text
+pub read_back : (w : Wanted) (c : Cluster) (text : List ℕ) → w.before ≡ 0 → w.last ≡ None → answers_in (lines (trace_of w c text)) ≡ answers c text
 read_back w c text b e = read_from w 0 c (lines text) b e

@@ -13,7 +13,7 @@ use Rattle.base.proofs.Facts.{lt_or_le}
 use Rattle.words.proofs.Framed.{framed_other}
 use Rattle.cluster.specs.declared.Cluster.{Cluster}
 use Rattle.steps.specs.declared.Outcome.{Outcome}
-use Rattle.frames.specs.declared.ReadStep.TheVariants.{NoFrame}
+use Rattle.std.proofs.Common.{None}
 use Rattle.frames.specs.Layout.{step_bytes}
 use Rattle.frames.specs.Steps.{step_in, read_step}
 use Rattle.lines.specs.Texts.{line_feed, lines, together, one_more}
@@ -38,8 +38,8 @@ kept_step p = ⊎_elim long short (lt_or_le most_shown (length p))
   where
     long : most_shown < length p → read_step (take most_shown p) ≡ read_step p
     long h =
-        sym (framed_other step_bytes step_in NoFrame (take most_shown p) (λ e. omega (arith, e, length-take most_shown p)))
-        ∙ framed_other step_bytes step_in NoFrame p (λ e. omega (arith, e))
+        sym (framed_other step_bytes step_in None (take most_shown p) (λ e. omega (arith, e, length-take most_shown p)))
+        ∙ framed_other step_bytes step_in None p (λ e. omega (arith, e))
 
     short : length p ≤ most_shown → read_step (take most_shown p) ≡ read_step p
     short h = ap read_step (take_all most_shown p h)

@@ -1,6 +1,6 @@
 -- The same byte by byte, with what is kept of a line: what is in the buffer after a line, and where a run is. Nobody has to believe this: by `follows_trace` it
 -- comes to the trace of the text. Assumes nothing.
-use Rattle.std.specs.Prelude.{◌≡◌, cond, List, [], ◌∷◌, ◌++◌, ℕ, ◌+◌, ◌≤◌, eqb, ltb, length}
+use Rattle.std.specs.Prelude.{◌≡◌, Bool, cond, List, [], ◌∷◌, ◌++◌, ℕ, ◌+◌, ◌≤◌, eqb, ltb, length}
 use Rattle.cluster.specs.declared.Cluster.{Cluster}
 use Rattle.lines.specs.Texts.{line_feed, one_more, placed}
 use Rattle.saved.specs.declared.Sort.TheVariants as S
@@ -21,10 +21,14 @@ first_line = line_length S.First
 abbrev pub most_line : ℕ
 most_line = longest + (pair_room + longest)
 
--- out is out₀ with a text of at most so many characters written from a place on, as far as the next place
-pub record Put (most : ℕ) (out₀ : List ℕ) (at₀ : ℕ) (out : List ℕ) (at : ℕ) (text : List ℕ) : Type 0 where
-  pub buffer : out ≡ placed out₀ at₀ text
-  pub next : at ≡ at₀ + length text
+-- room for a record's form
+abbrev pub form_room : Bool → ℕ
+form_room brief = cond brief first_line longest
+
+-- out is out₀ with a text of n characters written at its head, which are at most so many
+pub record Put (most : ℕ) (out₀ : List ℕ) (out : List ℕ) (n : ℕ) (text : List ℕ) : Type 0 where
+  pub buffer : out ≡ placed out₀ 0 text
+  pub count : n ≡ length text
   pub short : length text ≤ most
 
 -- all that a trace has for a line that leads from one record to another and has a pair

@@ -1,5 +1,5 @@
 -- The trace of a text: for each line that is wanted its pair, and the form of the record where that has changed. Assumes nothing.
-use Rattle.std.specs.Prelude.{Bool, cond, ◌&&◌, ◌||◌, List, [], ◌∷◌, ◌++◌, ℕ, eqb, ltb, leb}
+use Rattle.std.specs.Prelude.{Bool, true, cond, ◌&&◌, Option, Some, None, List, [], ◌∷◌, ◌++◌, ℕ, eqb, ltb, leb}
 use Rattle.cluster.specs.declared.Cluster.{Cluster}
 use Rattle.cluster.specs.Servers.{server_count}
 use Rattle.cluster.specs.WellFormed.{well_formed}
@@ -20,9 +20,14 @@ first_frame_of c = cond (eqb (server_count c) 0) [] (text_of (first_frame newest
 unfoldable pub form_by : Bool → Cluster → List ℕ
 form_by brief c = cond brief (first_frame_of c) (cond (well_formed c) (save_of c) [])
 
+-- so many lines are not past the end, where there is one
+abbrev pub goes_on : Option ℕ → ℕ → Bool
+goes_on None n = true
+goes_on (Some last) n = ltb n last
+
 -- a line is wanted, where so many have gone before it
 unfoldable pub is_wanted : Wanted → ℕ → Bool
-is_wanted w n = leb w.before n && (eqb w.last 0 || ltb n w.last)
+is_wanted w n = leb w.before n && goes_on w.last n
 
 -- before the first line that is wanted the record as it is
 unfoldable pub opening_of : Wanted → ℕ → Cluster → List ℕ

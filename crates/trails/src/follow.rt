@@ -1,13 +1,14 @@
 // A run that is traced: lines from standard input to its end, and the trace to standard output, a line of it as soon as it is there.
-ghost use Rattle.std.specs.Prelude.{◌≡◌};
-ghost use Rattle.lines.specs.Turns.{TurnsBy, DrainsBy};
+ghost use Rattle.std.specs.Prelude.{◌≡◌, true, refl};
 ghost use Rattle.trails.specs.Bytes.{trail_over};
-ghost use Rattle.trails.specs.Loop.{written_by, PassedOn, Ends, Follows};
+ghost use Rattle.lines.specs.Turns.{all_read};
+ghost use Rattle.trails.specs.Loop.{written_by, Ends, EndsAs, Follows};
 
-use crate::Wanted;
+use crate::{MOST_LINE, Wanted};
 use cluster::Cluster;
-use lines::{End, LINE_FEED, PIECE};
-use streams::Streams;
+use lines::{Broke, End, LINE_FEED};
+use std::slice;
+use streams::{Streams, Taker};
 use traces::CutLine;
 
 // Where a run is: its record, what is kept of a line, and how many lines have gone before it.
@@ -18,161 +19,102 @@ pub struct Trail {
     pub number: usize,
 }
 
-// Where a run is, and why it was read no further.
-#[derive(Clone, Copy)]
-pub struct Followed {
+// A run that is traced: what is wanted of the trace, where the run is, and room for what a line of it shows.
+#[derive(Drop)]
+pub struct Tracing<'a> {
+    pub streams: &'a Streams,
+    pub wanted: Wanted,
     pub trail: Trail,
-    pub end: End,
+    pub out: [u8; MOST_LINE],
 }
 
-// The last record, and how a run ended: with its input where all of it was read and written.
-#[derive(Clone, Copy)]
-pub struct Traced {
-    pub cluster: Cluster,
-    pub end: End,
+impl Taker for Tracing<'_> {
+    type State = Trail;
+
+    ghost state = { λ t. t.trail };
+
+    ghost over = { trail_over };
+
+    ghost writes = { true };
+
+    // Of a trace that can't be written the rest is left out, and the record is the same.
+    fn take(&mut self, piece: &[u8]) -> bool {
+        let mut wrote = true;
+        for b in piece {
+            let line = self.trail.kept;
+            self.trail.kept = traces::keep(line, slice::from_ref(b));
+            if *b != LINE_FEED {
+                continue;
+            }
+            let n = self.trail.number;
+            let l = crate::put_line(self.wanted, n, self.trail.cluster, line, &mut self.out);
+            self.trail.cluster = l.cluster;
+            self.trail.number = lines::one_more(n);
+            wrote = wrote && self.write(l.wrote);
+        }
+        wrote
+    }
+
+    ghost over_nothing = { λ t. refl };
 }
 
-// Writes the first n bytes of the buffer, where all before them could be written; whether they could.
-fn write_on(streams: &Streams, wrote: bool, out: &[u8], n: usize) -> bool {
-    if !wrote {
-        return false;
+impl Tracing<'_> {
+    // Writes the first n bytes of the buffer, and says whether that went well.
+    fn write(&self, n: usize) -> bool {
+        self.streams.write_first(&self.out, n)
     }
-    if out.len() < n {
-        return false;
+
+    // The rest of the input: without a line feed it counts if it isn't empty. The last record, where all could be written.
+    fn close(&mut self) -> Result<Cluster, Broke>
+        ensures { Ends self.old.trail result }
+    {
+        let Trail {
+            cluster,
+            kept,
+            number,
+        } = self.trail;
+        if kept.fill == 0 {
+            return Ok(cluster);
+        }
+        let l = crate::put_line(self.wanted, number, cluster, kept, &mut self.out);
+        written(self.write(l.wrote))?;
+        Ok(l.cluster)
     }
-    streams.write(&out[..n])
+
+    // The end of a run whose input ended so: only where that was read to its end there is a rest.
+    fn end(&mut self, end: End) -> Result<Cluster, Broke>
+        ensures { EndsAs end self.old.trail result }
+    {
+        end?;
+        self.close()
+    }
 }
 
 // How something that is written ends.
-fn written(wrote: bool, well: End) -> End
-    ensures { result ≡ written_by wrote well }
+fn written(wrote: bool) -> End
+    ensures { result ≡ written_by wrote all_read }
 {
-    if wrote { well } else { End::CannotWrite }
-}
-
-// All of one piece. Of a trace that can't be written the rest is left out, and the record is the same.
-fn pass(streams: &Streams, w: Wanted, t: Trail, piece: &[u8], out: &mut [u8]) -> Followed
-    ensures { PassedOn t piece.now result }
-{
-    let mut c = t.cluster;
-    let mut k = t.kept;
-    let mut n = t.number;
-    let mut wrote = true;
-    let mut i: usize = 0;
-    while i < piece.len() {
-        let b = piece[i];
-        let line = k;
-        let j = i + 1;
-        k = traces::keep(line, &piece[i..j]);
-        i = j;
-        if b != LINE_FEED {
-            continue;
-        }
-        let l = crate::put_line(w, n, c, line, out);
-        c = l.cluster;
-        n = lines::one_more(n);
-        wrote = write_on(streams, wrote, out, l.wrote);
-    }
-    Followed {
-        trail: Trail {
-            cluster: c,
-            kept: k,
-            number: n,
-        },
-        end: written(wrote, End::More),
+    if wrote {
+        Ok(())
+    } else {
+        Err(Broke::CannotWrite)
     }
 }
 
-// One turn with what a read answered.
-fn turn(
-    streams: &Streams,
-    w: Wanted,
-    t: Trail,
-    buffer: &[u8],
-    got: isize,
-    out: &mut [u8],
-) -> Followed
-    ensures { TurnsBy trail_over t buffer.now got result.trail result.end }
-{
-    if got == 0 {
-        return Followed {
-            trail: t,
-            end: End::Input,
-        };
-    }
-    if got < 0 {
-        return Followed {
-            trail: t,
-            end: End::CannotRead,
-        };
-    }
-    let n = io::count(got, buffer);
-    pass(streams, w, t, &buffer[..n], out)
-}
-
-// Standard input to its end. The count of turns only makes the loop end: nobody lives to see it run out.
-fn drain(streams: &Streams, w: Wanted, t: Trail, out: &mut [u8]) -> Followed
-    ensures { DrainsBy trail_over t result.trail result.end }
-{
-    let mut d = t;
-    let mut turns = u64::MAX;
-    while turns > 0 {
-        let mut buffer = [0; PIECE];
-        let got = streams.read(&mut buffer);
-        let f = turn(streams, w, d, &buffer, got, out);
-        let e = f.trail;
-        d = e;
-        let end = f.end;
-        let End::More = end else {
-            return Followed { trail: d, end: end };
-        };
-        turns -= 1;
-    }
-    Followed {
-        trail: d,
-        end: End::More,
-    }
-}
-
-// The end of the input: a rest without a line feed counts if it isn't empty.
-fn close(streams: &Streams, w: Wanted, t: Trail, out: &mut [u8]) -> Traced
-    ensures { Ends t result }
-{
-    let c = t.cluster;
-    let k = t.kept;
-    if k.fill == 0 {
-        return Traced {
-            cluster: c,
-            end: End::Input,
-        };
-    }
-    let l = crate::put_line(w, t.number, c, k, out);
-    let d = l.cluster;
-    Traced {
-        cluster: d,
-        end: written(write_on(streams, true, out, l.wrote), End::Input),
-    }
-}
-
-// All of standard input, traced from the record on.
-pub fn follow(streams: &Streams, w: Wanted, c: Cluster) -> Traced
+// All of standard input, traced from the record on: the last record, where all of it was read and written.
+pub fn follow(streams: &Streams, w: Wanted, c: Cluster) -> Result<Cluster, Broke>
     ensures { Follows c result }
 {
-    let mut out = [0; crate::MOST_LINE];
-    let begun = Trail {
-        cluster: c,
-        kept: traces::nothing_kept(),
-        number: 0,
+    let mut tracing = Tracing {
+        streams,
+        wanted: w,
+        trail: Trail {
+            cluster: c,
+            kept: traces::nothing_kept(),
+            number: 0,
+        },
+        out: [0; MOST_LINE],
     };
-    let f = drain(streams, w, begun, &mut out);
-    let t = f.trail;
-    let d = t.cluster;
-    let end = f.end;
-    let End::Input = end else {
-        return Traced {
-            cluster: d,
-            end: end,
-        };
-    };
-    close(streams, w, t, &mut out)
+    let end = streams::drain(&mut streams.input(), &mut tracing);
+    tracing.end(end)
 }

@@ -1,42 +1,10 @@
-// The record under construction, and the lines that change it.
-use crate::latest::LATEST;
-use crate::numbers::{PLACES, byte, word};
-use crate::told::{MAIL, NOTE, REPORT};
-use crate::{latest, numbers, say, told};
+// The record under construction, and the lines that change it. Each function that takes a line answers none where the line hasn't as many numbers, or one
+// of them reaches past the record.
+use crate::numbers::{byte, read, word};
 use clock::Time;
-use cluster::{Cluster, Head, Server};
+use cluster::{Cluster, Head};
+use mail::{Note, Report};
 use server_log::Entry;
-use streams::Streams;
-
-// How many numbers there are in a line `fresh`, `server` and `entry`; `latest` and `told` have the other lines.
-const FRESH: usize = 2;
-
-pub(crate) const SERVER: usize = 8;
-
-pub(crate) const ENTRY: usize = 7;
-
-// How many numbers a line has by its first character; more than can be read where it begins no word.
-fn wanted(first: u8) -> usize {
-    match first {
-        b'f' => FRESH,
-        b's' => SERVER,
-        b'e' => ENTRY,
-        b'l' => LATEST,
-        b'm' => MAIL,
-        b'n' => NOTE,
-        b'r' => REPORT,
-        _ => usize::MAX,
-    }
-}
-
-// The numbers of a line by its first character; where it is none, the greatest, which name no server.
-pub(crate) fn numbers_by(line: &[u8], first: u8) -> [usize; PLACES] {
-    let n = numbers::read(line);
-    if n[0] != wanted(first) {
-        return [usize::MAX; PLACES];
-    }
-    n
-}
 
 fn time(p: usize, l: usize) -> Time {
     Time {
@@ -45,89 +13,110 @@ fn time(p: usize, l: usize) -> Time {
     }
 }
 
-// The server with the numbers of a line `server` and the slots that it has.
-fn with_numbers(s: Server, n: [usize; PLACES]) -> Server {
-    let mut g = s.log;
-    g.len = n[2];
-    Server {
-        head: Head {
-            term: word(n[3]),
-            primary: n[4] != 0,
-            commit: n[5],
-            wall: word(n[6]),
-            time: time(n[7], n[8]),
-        },
-        log: g,
-        ..s
+// Changes the record by a line, as its first character tells.
+pub(crate) fn change(c: &mut Cluster, line: &[u8]) -> Option<()> {
+    match line.first()? {
+        b'f' => fresh(c, line),
+        b's' => server(c, line),
+        b'e' => entry(c, line),
+        b'l' => latest(c, line),
+        b'm' => mail(c, line),
+        b'n' => note(c, line),
+        b'r' => report(c, line),
+        _ => None,
     }
 }
 
-// The entry of a line `entry`.
-fn entry_of(n: [usize; PLACES]) -> Entry {
-    Entry {
-        term: word(n[3]),
-        key: byte(n[4]),
-        value: word(n[5]),
-        time: time(n[6], n[7]),
+// A line `fresh`: servers, followers.
+fn fresh(c: &mut Cluster, line: &[u8]) -> Option<()> {
+    let [count, followers] = read::<2>(line)?;
+    *c = cluster::fresh_cluster(count, byte(followers));
+    Some(())
+}
+
+// Gives a server rows as its log and commit point have them, so that a line `latest` alone breaks them; past the count they stay.
+fn row(c: &mut Cluster, i: usize) {
+    if i < c.count && i < cluster::MOST_SERVERS {
+        c.servers[i] = cluster::rowed(c.servers[i]);
     }
 }
 
-// The slot of a position, past the log for position 0.
-fn slot_of(at: usize) -> usize {
-    if at == 0 {
-        server_log::LOG_LIMIT
+// A line `server`: server, length, term, whether it is primary, commit point, wall clock, p, l. The slots stay.
+fn server(c: &mut Cluster, line: &[u8]) -> Option<()> {
+    let [i, len, term, primary, commit, wall, p, l] = read::<8>(line)?;
+    let s = c.servers.get_mut(i)?;
+    s.log.len = len;
+    s.head = Head {
+        term: word(term),
+        primary: primary != 0,
+        commit,
+        wall: word(wall),
+        time: time(p, l),
+    };
+    row(c, i);
+    Some(())
+}
+
+// A line `entry`: server, position, term, key, value, p, l.
+fn entry(c: &mut Cluster, line: &[u8]) -> Option<()> {
+    let [i, at, term, key, value, p, l] = read::<7>(line)?;
+    let s = c.servers.get_mut(i)?;
+    let slot = at
+        .checked_sub(1)
+        .and_then(|slot| s.log.entries.get_mut(slot));
+    let known = slot.map(|slot| {
+        *slot = Entry {
+            term: word(term),
+            key: byte(key),
+            value: word(value),
+            time: time(p, l),
+        };
+    });
+    row(c, i);
+    known
+}
+
+// A line `latest`: server, 0 for the row of the whole log or 1 for that of the committed beginning, key, value.
+fn latest(c: &mut Cluster, line: &[u8]) -> Option<()> {
+    let [i, which, key, value] = read::<4>(line)?;
+    let rows = &mut c.servers.get_mut(i)?.rows;
+    let row = if which == 0 {
+        &mut rows.whole
     } else {
-        at - 1
-    }
+        &mut rows.committed
+    };
+    *row.values.get_mut(key)? = word(value);
+    Some(())
 }
 
-// The server with the entry of a line `entry` in its slot.
-fn with_entry(streams: &Streams, s: Server, line: &[u8], n: [usize; PLACES]) -> Server {
-    let slot = slot_of(n[2]);
-    if server_log::LOG_LIMIT <= slot {
-        say::unknown(streams, line);
-        return s;
-    }
-    let mut g = s.log;
-    g.entries[slot] = entry_of(n);
-    Server { log: g, ..s }
+// A line `mail`: server, reports, and the source: 0 for none, n + 1 for server n.
+fn mail(c: &mut Cluster, line: &[u8]) -> Option<()> {
+    let [i, reports, source] = read::<3>(line)?;
+    let m = &mut c.servers.get_mut(i)?.mail;
+    m.queue.len = reports;
+    m.source = source.checked_sub(1);
+    Some(())
 }
 
-// The server after a line that changes it; each kind of line has a count of numbers of its own, which tells it from the others.
-fn with_line(streams: &Streams, s: Server, line: &[u8], n: [usize; PLACES]) -> Server {
-    match n[0] {
-        SERVER => with_numbers(s, n),
-        LATEST => latest::with_latest(streams, s, line, n),
-        MAIL => told::with_mail(s, n),
-        NOTE => told::with_note(streams, s, line, n),
-        REPORT => told::with_report(streams, s, line, n),
-        _ => with_entry(streams, s, line, n),
-    }
+// A line `note`: server, of whom, term, last term, length.
+fn note(c: &mut Cluster, line: &[u8]) -> Option<()> {
+    let [i, whose, term, last, len] = read::<5>(line)?;
+    *c.servers.get_mut(i)?.mail.notes.get_mut(whose)? = Note {
+        term: word(term),
+        last: word(last),
+        len: word(len),
+    };
+    Some(())
 }
 
-// The server with rows as its log and commit point have them, so that a line `latest` alone breaks them; past the count they stay.
-fn with_rows(counted: bool, s: Server, n: [usize; PLACES]) -> Server {
-    if !counted {
-        return s;
-    }
-    match n[0] {
-        SERVER => cluster::rowed(s),
-        ENTRY => cluster::rowed(s),
-        _ => s,
-    }
-}
-
-// The record after a line of these numbers; a line that is none, or reaches past the record, is said.
-pub(crate) fn changed(streams: &Streams, c: Cluster, line: &[u8], n: [usize; PLACES]) -> Cluster {
-    let i = n[1];
-    if n[0] == FRESH {
-        return cluster::fresh_cluster(i, byte(n[2]));
-    }
-    if cluster::MOST_SERVERS <= i {
-        say::unknown(streams, line);
-        return c;
-    }
-    let s = c.servers[i];
-    let t = with_line(streams, s, line, n);
-    cluster::with_server(c, i, with_rows(i < c.count, t, n))
+// A line `report`: server, slot from 0, who, term, last term, length.
+fn report(c: &mut Cluster, line: &[u8]) -> Option<()> {
+    let [i, slot, who, term, last, len] = read::<6>(line)?;
+    *c.servers.get_mut(i)?.mail.queue.reports.get_mut(slot)? = Report {
+        who: byte(who),
+        term: word(term),
+        last: word(last),
+        len: word(len),
+    };
+    Some(())
 }

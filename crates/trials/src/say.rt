@@ -1,110 +1,95 @@
 // Lines on standard output, in the words of the input.
-use crate::numbers::PLACES;
-use crate::record::{ENTRY, SERVER};
 use cluster::{Cluster, Server};
-use server_log::{Entry, Log};
-use steps::Answer;
+use server_log::ZERO_ENTRY;
+use std::fmt::{self, Display};
 use streams::Streams;
 
-pub(crate) fn line(streams: &Streams, words: &[u8]) {
-    streams.write(words);
-    streams.write(b"\n");
-}
+// A server, by the lines that make it of one that is all zero: its numbers, its entries, in and past its length, and what else it keeps.
+#[derive(Clone, Copy)]
+struct Lines<'a>(usize, &'a Server);
 
-// A line that can't be taken.
-pub(crate) fn unknown(streams: &Streams, words: &[u8]) {
-    streams.write(b"? ");
-    line(streams, words);
-}
-
-// A word and its numbers.
-pub(crate) fn row(streams: &Streams, word: &[u8], n: [usize; PLACES]) {
-    streams.write(word);
-    let mut k: usize = 1;
-    while k < PLACES {
-        if n[0] < k {
-            break;
+impl Lines<'_> {
+    fn entries<W: fmt::Write>(&self, f: &mut fmt::Formatter<W>) -> fmt::Result {
+        let Lines(i, s) = *self;
+        for (slot, e) in s.log.entries.iter().enumerate() {
+            if slot < s.log.len || *e != ZERO_ENTRY {
+                let at = slot + 1;
+                let t = e.time;
+                writeln!(
+                    f,
+                    "entry {i} {at} {} {} {} {} {}",
+                    e.term, e.key, e.value, t.p, t.l
+                )?;
+            }
         }
-        streams.write(b" ");
-        streams.write_decimal(n[k] as u64);
-        k += 1;
+        Ok(())
     }
-    line(streams, b"");
-}
 
-pub(crate) fn answer(streams: &Streams, a: Answer) {
-    let chars = answers::write_answer(a);
-    line(streams, &chars);
-}
-
-// The new server count and the new followers where either is new; whether neither is.
-pub(crate) fn same_size(streams: &Streams, c: Cluster, d: Cluster) -> bool {
-    if c.count == d.count && c.followers == d.followers {
-        return true;
-    }
-    row(
-        streams,
-        b"count",
-        [2, d.count, d.followers as usize, 0, 0, 0, 0, 0, 0],
-    );
-    false
-}
-
-pub(crate) fn verdict(streams: &Streams, same: bool) {
-    if same {
-        line(streams, b"same");
-    }
-}
-
-// The numbers of a line `server`.
-pub(crate) fn numbers_of(i: usize, s: Server) -> [usize; PLACES] {
-    [
-        SERVER,
-        i,
-        s.log.len,
-        s.head.term as usize,
-        if s.head.primary { 1 } else { 0 },
-        s.head.commit,
-        s.head.wall as usize,
-        s.head.time.p as usize,
-        s.head.time.l as usize,
-    ]
-}
-
-fn entry(streams: &Streams, i: usize, at: usize, e: Entry) {
-    row(
-        streams,
-        b"entry",
-        [
-            ENTRY,
-            i,
-            at,
-            e.term as usize,
-            e.key as usize,
-            e.value as usize,
-            e.time.p as usize,
-            e.time.l as usize,
-            0,
-        ],
-    );
-}
-
-// An entry of server i, where it is within the length or not zero.
-fn slot(streams: &Streams, i: usize, at: usize, len: usize, e: Entry) {
-    if len < at {
-        if server_log::same_entry(e, server_log::zero_entry()) {
-            return;
+    fn rows<W: fmt::Write>(&self, f: &mut fmt::Formatter<W>) -> fmt::Result {
+        let Lines(i, s) = *self;
+        for (which, row) in [s.rows.whole, s.rows.committed].iter().enumerate() {
+            for (key, value) in row.values.iter().enumerate() {
+                if *value != 0 {
+                    writeln!(f, "latest {i} {which} {key} {value}")?;
+                }
+            }
         }
+        Ok(())
     }
-    entry(streams, i, at, e);
+
+    fn mail<W: fmt::Write>(&self, f: &mut fmt::Formatter<W>) -> fmt::Result {
+        let Lines(i, s) = *self;
+        let m = &s.mail;
+        let source = m.source.map_or(0, |n| n.saturating_add(1));
+        if m.queue.len != 0 || source != 0 {
+            writeln!(f, "mail {i} {} {source}", m.queue.len)?;
+        }
+        for (whose, n) in m.notes.iter().enumerate() {
+            if *n != mail::ZERO_NOTE {
+                writeln!(f, "note {i} {whose} {} {} {}", n.term, n.last, n.len)?;
+            }
+        }
+        for (slot, r) in m.queue.reports.iter().enumerate() {
+            if *r != mail::ZERO_REPORT {
+                writeln!(
+                    f,
+                    "report {i} {slot} {} {} {} {}",
+                    r.who, r.term, r.last, r.len
+                )?;
+            }
+        }
+        Ok(())
+    }
 }
 
-// The entries of server i, and what slots past the length have in them.
-pub(crate) fn entries(streams: &Streams, i: usize, g: Log) {
-    let mut k: usize = 0;
-    while k < server_log::LOG_LIMIT {
-        let e = g.entries[k];
-        k += 1;
-        slot(streams, i, k, g.len, e);
+impl Display for Lines<'_> {
+    fn fmt<W: fmt::Write>(&self, f: &mut fmt::Formatter<W>) -> fmt::Result {
+        let Lines(i, s) = *self;
+        let h = s.head;
+        let primary = u8::from(h.primary);
+        let t = h.time;
+        writeln!(
+            f,
+            "server {i} {} {} {primary} {} {} {} {}",
+            s.log.len, h.term, h.commit, h.wall, t.p, t.l
+        )?;
+        self.entries(f)?;
+        self.rows(f)?;
+        self.mail(f)
+    }
+}
+
+// Writes the new count and followers where they are new, and each server that isn't as it was, or `same`.
+pub(crate) fn changes(streams: &Streams, c: &Cluster, d: &Cluster) {
+    if c == d {
+        streams.print("same\n");
+    }
+    if c.count != d.count || c.followers != d.followers {
+        streams.print(format_args!("count {} {}\n", d.count, d.followers));
+    }
+    for (i, (s, t)) in c.servers.iter().zip(&d.servers).enumerate() {
+        if s != t {
+            streams.print(Lines(i, t));
+        }
     }
 }

@@ -1,10 +1,8 @@
 -- 01's twelve cases as the rows of one table, each with its expected value, and one test over the definitions that the promises cite.
 -- Assumes nothing.
-use Rattle.std.specs.Prelude.{List, [], ◌∷◌, ◌++◌, map, Bool, true, false, ◌&&◌, ℕ, suc, ◌+◌, ◌-◌, eqb, length, replicate}
+use Rattle.std.specs.Prelude.{List, [], ◌∷◌, ◌++◌, map, Bool, true, false, ◌&&◌, ℕ, suc, ◌+◌, ◌-◌, eqb, length, replicate, Option, Some, None}
 use Rattle.std.specs.Bool.{beq}
 use Rattle.clock.specs.declared.Time.{Time}
-use Rattle.clock.specs.declared.Ticked.{Ticked}
-use Rattle.clock.specs.declared.Ticked.TheVariants.{To, AtLimit}
 use Rattle.clock.specs.Times.{zero_time, is_before, same_time, tick_of}
 use Rattle.server_log.specs.declared.Entry.{Entry}
 use Rattle.server_log.specs.declared.Log.{Log}
@@ -86,9 +84,9 @@ leader_of h ns =
     with_mail (server_of h.0 true h.1)
     (with_notes zero_mail (zero_note ∷ (map (λ n. record { term = n.0; last = n.1; len = n.2 }) ns ++ replicate (most_servers - 1 - length ns) zero_note)))
 
-abbrev pub ticks_to : Ticked → Time → Bool
-ticks_to (To s) t = same_time s t
-ticks_to AtLimit t = false
+abbrev pub ticks_to : Option Time → Time → Bool
+ticks_to (Some s) t = same_time s t
+ticks_to None t = false
 
 -- the number of the refusal, 0 where no rule is broken
 abbrev pub verdict : Rules → ℕ

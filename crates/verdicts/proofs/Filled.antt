@@ -1,7 +1,7 @@
 -- A log with an array a field: filled slot by slot, and lent as far as its entries go. Assumes nothing.
 use mathlib.Core.Path.{◌≡◌, refl, sym, ap, ◌∙◌}
 use mathlib.Core.List.{List, [], ◌∷◌, map}
-use Prim.Native.Nat.{ℕ, zero, suc, ◌+◌, ◌<◌, ◌≤◌}
+use Prim.Native.Nat.{ℕ, zero, suc, ◌+◌, ◌<◌}
 use native.Mathlib.Omega.{arith}
 use lib.ListN.{length, get_or, set, take, replicate, length-map, length-replicate, get_or-map}
 use lib.Seq.{take-length}
@@ -9,13 +9,13 @@ use Rattle.server_log.specs.declared.Entry.{Entry}
 use Rattle.server_log.specs.declared.Log.{Log}
 use Rattle.server_log.specs.Entries.{zero_entry}
 use Rattle.server_log.specs.Logs.{log_limit, live, length_of}
-use Rattle.server_log.proofs.Live.{length_live, first_slots}
+use Rattle.server_log.proofs.Live.{first_slots}
 use Rattle.hex_text.proofs.Places.{Put, put_none, put_more, put_all_lem}
 use Rattle.hex_text.proofs.Trips.{over_all}
-use Rattle.histories.specs.Committed.{committed_limit, lent, entries_on, entries_of}
+use Rattle.histories.specs.Committed.{committed_limit, entries_on, entries_of}
 use Rattle.histories.specs.Longest.{columns_of}
-use Rattle.verdicts.specs.declared.Columns.{Columns}
-use Rattle.verdicts.specs.Verdicts.{all_columns}
+use Rattle.verdicts.specs.declared.Spread.{Spread}
+use Rattle.verdicts.specs.Verdicts.{all_columns, first_columns}
 
 -- ---- slot by slot
 
@@ -38,7 +38,7 @@ module _ (es : List Entry) (long : length es ≡ log_limit) (f : Entry → ℕ) 
       ∙ over_all (map f es) zeros (omega (arith, length-map es f, length-replicate {A = ℕ} committed_limit 0))
 
 -- all five
-pub record AllFilled (es : List Entry) (c : Columns) (i : ℕ) : Type 0 where
+pub record AllFilled (es : List Entry) (c : Spread) (i : ℕ) : Type 0 where
   pub terms : Filled (λ e. e.term) es c.terms i
   pub keys : Filled (λ e. e.key) es c.keys i
   pub values : Filled (λ e. e.value) es c.values i
@@ -48,7 +48,7 @@ pub record AllFilled (es : List Entry) (c : Columns) (i : ℕ) : Type 0 where
 pub all_none : (es : List Entry) → AllFilled es (record { terms = zeros; keys = zeros; values = zeros; ps = zeros; ls = zeros }) 0
 all_none es = record { terms = put_none _ _; keys = put_none _ _; values = put_none _ _; ps = put_none _ _; ls = put_none _ _ }
 
-module _ {es : List Entry} {c : Columns} {i : ℕ} (u : AllFilled es c i) (long : length es ≡ log_limit) where
+module _ {es : List Entry} {c : Spread} {i : ℕ} (u : AllFilled es c i) (long : length es ≡ log_limit) where
   pub all_more : (e : Entry) → i < log_limit → e ≡ get_or es i zero_entry
       → AllFilled es
       (record {
@@ -97,25 +97,11 @@ module _ (g : Log) (n : ℕ) (h : n ≡ length_of g) where
   part : (f : Entry → ℕ) → take n (map f g.entries) ≡ map f (live g)
   part f = map_take f n g.entries ∙ ap (map f) take_live
 
-  pub lent_columns : (c : Columns) → c ≡ all_columns g
-      → lent (take n c.terms) (take n c.keys) (take n c.values) (take n c.ps) (take n c.ls) ≡ columns_of (live g)
+  pub lent_columns : (c : Spread) → c ≡ all_columns g
+      → first_columns n c ≡ columns_of (live g)
   lent_columns c e =
       rw e
       (cc (part (λ d. d.term), part (λ d. d.key), part (λ d. d.value), part (λ d. d.time.p), part (λ d. d.time.l)))
-
--- each array has as many places
-pub record Fitting (n : ℕ) (c : Columns) : Type 0 where
-  pub terms : n ≤ length c.terms
-  pub keys : n ≤ length c.keys
-  pub values : n ≤ length c.values
-  pub ps : n ≤ length c.ps
-  pub ls : n ≤ length c.ls
-
-pub all_fit : (g : Log) (n : ℕ) (c : Columns) → n ≡ length_of g → c ≡ all_columns g → Fitting n c
-all_fit g n c h e = rw e record { terms = fit (λ d. d.term); keys = fit (λ d. d.key); values = fit (λ d. d.value); ps = fit (λ d. d.time.p); ls = fit (λ d. d.time.l) }
-  where
-    fit : (f : Entry → ℕ) → n ≤ length (map f g.entries)
-    fit f = omega (arith, length-map g.entries f, length_live g (length g.entries) refl)
 
 -- the entries of a log that is lent are the log's
 pub columns_same : (es : List Entry) → entries_of (columns_of es) ≡ es

@@ -1,11 +1,11 @@
 -- What the verdict on two texts comes to. Assumes nothing.
 use mathlib.Core.Path.{◌≡◌, sym, ap, subst, ◌∙◌}
-use mathlib.Core.Bool.{Bool, true, false, cond}
+use Rattle.std.specs.Prelude.{Some, None}
+use mathlib.Core.Bool.{true}
 use mathlib.Core.List.{List, [], ◌∷◌}
 use Prim.Native.Nat.{ℕ, ◌<◌}
 use native.Mathlib.Omega.{arith}
 use borrow.Author.Tests.{ne_eqb}
-use lib.Dec.{eqb}
 use lib.ListN.{length}
 use Rattle.server_log.specs.declared.Entry.{Entry}
 use Rattle.server_log.specs.Logs.{live}
@@ -32,20 +32,19 @@ use Rattle.verdicts.specs.Verdicts.{verdict_of, verdict_on}
 
 -- ---- a law for each way that the verdict can go
 
-pub verdict_bad : (run : Run) (s : Listed) → s.bad ≡ true → BadLine s.number ≡ verdict_of run s
+pub verdict_bad : (run : Run) (s : Listed) (n : ℕ) → s.bad ≡ Some n → BadLine n ≡ verdict_of run s
 unfolding verdict_of
-verdict_bad run s e = rw e
+verdict_bad run s n e = rw e
 
-pub verdict_none : (run : Run) (s : Listed) → s.bad ≡ false → run.starts ≡ 0 → NoStart ≡ verdict_of run s
+pub verdict_none : (run : Run) (s : Listed) → s.bad ≡ None → run.starts ≡ 0 → NoStart ≡ verdict_of run s
 unfolding verdict_of
 verdict_none run s e h = rw (e, h)
 
-pub verdict_judged : (run : Run) (s : Listed) (a : Checked) → s.bad ≡ false → (run.starts ≡ 0 → ⊥) → a ≡ check_of (records_kept s) (columns_of (live run.longest))
+pub verdict_judged : (run : Run) (s : Listed) (a : Checked) → s.bad ≡ None → (run.starts ≡ 0 → ⊥) → a ≡ check_of (records_kept s) (columns_of (live run.longest))
     → Judged a ≡ verdict_of run s
 unfolding verdict_of
 verdict_judged run s a e h p =
-    ap Judged p ∙ sym (ap (λ (b : Bool). cond b (BadLine s.number) (cond (eqb run.starts 0) NoStart (Judged (check_of (records_kept s) (columns_of (live run.longest)))))) e
-    ∙ ap (λ (b : Bool). cond b NoStart (Judged (check_of (records_kept s) (columns_of (live run.longest))))) (ne_eqb run.starts 0 h))
+    ap Judged p ∙ sym (rw (e, ne_eqb run.starts 0 h))
 
 -- ---- two texts
 
@@ -53,8 +52,7 @@ module _ (steps phones : List ℕ) where
   -- a line of the phones' that is no record: the number of the first
   pub bad_line : (f : FirstBad (lines phones)) → verdict_on steps phones ≡ BadLine (line_number (length f.before))
   bad_line f =
-      let b = first_bad phones f.before f.bad f.after f.records f.split f.reads f.none in
-      sym (verdict_bad (run_followed steps) (list_of phones) b.0) ∙ ap BadLine b.1
+      sym (verdict_bad (run_followed steps) (list_of phones) _ (first_bad phones f.before f.bad f.after f.records f.split f.reads f.none))
 
   module _ (rs : List PhoneRecord) (reads : Reads (lines phones) rs) where
     listed : AllRead rs (list_of phones)

@@ -10,16 +10,12 @@ pub fn greatest_clock(c: Cluster) -> u16
     ensures { result ≡ greatest_clock c }
 {
     let size = cluster::server_count(c.count);
-    let mut most = 0;
-    let mut i = 0;
-    while i < size {
-        let s = c.servers[i];
-        if most < s.head.wall {
-            most = s.head.wall;
-        }
-        i += 1;
-    }
-    most
+    c.servers
+        .iter()
+        .take(size)
+        .map(|s| s.head.wall)
+        .max()
+        .unwrap_or(0)
 }
 
 pub fn clocks_agree(c: Cluster) -> Outcome

@@ -9,37 +9,22 @@ use steps::{Answer, Outcome, Refusal};
 pub fn not_behind(s: Server, t: Server) -> bool
     ensures { result ≡ not_behind s t }
 {
-    let g = s.log;
-    let h = t.log;
-    let m = server_log::last_term(g);
-    let n = server_log::last_term(h);
-    if n < m {
-        return true;
-    }
-    if n != m {
-        return false;
-    }
-    server_log::length_of(h) <= server_log::length_of(g)
+    (server_log::last_term(t.log), server_log::length_of(t.log))
+        <= (server_log::last_term(s.log), server_log::length_of(s.log))
 }
 
 // Whether t may be a member where s is elected.
 pub fn may_vote(s: Server, t: Server) -> bool
     ensures { result ≡ may_vote s t }
 {
-    if s.head.term < t.head.term {
-        return false;
-    }
-    not_behind(s, t)
+    t.head.term <= s.head.term && not_behind(s, t)
 }
 
 // Whether server i of the set may vote for s; who isn't a member isn't asked.
 pub fn vote_ok(s: Server, t: Server, set: u8, i: usize) -> bool
     ensures { result ≡ vote_ok s t set i }
 {
-    if !cluster::sets::is_member(set, i) {
-        return true;
-    }
-    may_vote(s, t)
+    !cluster::sets::is_member(set, i) || may_vote(s, t)
 }
 
 // Whether every member of the set may vote for s.
@@ -47,15 +32,11 @@ pub fn all_may_vote(c: Cluster, s: Server, set: u8) -> bool
     ensures { result ≡ all_may_vote c s set }
 {
     let size = cluster::server_count(c.count);
-    let mut i = 0;
-    while i < size {
-        let t = c.servers[i];
-        if !vote_ok(s, t, set, i) {
-            return false;
-        }
-        i += 1;
-    }
-    true
+    c.servers
+        .iter()
+        .take(size)
+        .enumerate()
+        .all(|(i, t)| vote_ok(s, *t, set, i))
 }
 
 // Whether a and every member of the set are servers that vote.
@@ -63,16 +44,10 @@ pub fn are_voters(c: Cluster, a: usize, set: u8) -> bool
     ensures { result ≡ are_voters c a set }
 {
     let size = cluster::server_count(c.count);
-    if size <= a {
-        return false;
-    }
-    if !cluster::sets::does_vote(c.followers, a) {
-        return false;
-    }
-    if !cluster::sets::within(set, size) {
-        return false;
-    }
-    cluster::sets::apart(set, c.followers)
+    a < size
+        && cluster::sets::does_vote(c.followers, a)
+        && cluster::sets::within(set, size)
+        && cluster::sets::apart(set, c.followers)
 }
 
 pub fn elects(c: Cluster, a: usize, set: u8) -> Outcome

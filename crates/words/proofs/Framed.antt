@@ -6,11 +6,13 @@ use Prim.Native.Nat.{ℕ, ◌*◌}
 use native.Mathlib.Omega.{arith}
 use borrow.Author.Tests.{eq-eqb, ne_eqb, eqb-true}
 use lib.Dec.{eqb}
-use lib.ListN.{length, replicate}
+use lib.ListN.{length}
 use Rattle.base.proofs.Bools.{and_left, and_right}
-use Rattle.hex_text.specs.Lines.{chars, all_hex, bytes_of, hex_of, over}
+use Rattle.hex_text.specs.Lines.{chars, all_hex, bytes_of, hex_of}
 use Rattle.hex_text.proofs.Places.{bytes_length, hex_length}
-use Rattle.hex_text.proofs.Trips.{Bytes, bytes_hex, hex_all, hex_bytes, unhexed}
+use Rattle.hex_text.proofs.Trips.{Bytes, bytes_hex, hex_all, hex_bytes}
+use Rattle.std.proofs.Common.{Some, None}
+use Rattle.std.proofs.lemmas.Option.{none-some, same_Some}
 use Rattle.words.specs.Words.{framed}
 
 module _ {A : Type 0} (n : ℕ) (f : List ℕ → A) (none : A) where
@@ -27,9 +29,22 @@ module _ {A : Type 0} (n : ℕ) (f : List ℕ → A) (none : A) where
   unfolding framed
   framed_good line h e = simp (eq-eqb _ _ h, e)
 
-  -- the bytes that `unhex` leaves
-  pub framed_unhexed : (line bs : List ℕ) → length line ≡ chars * n → all_hex line ≡ true → bs ≡ over (bytes_of line) (replicate n 0) → f bs ≡ framed n f none line
-  framed_unhexed line bs h e p = ap f (unhexed n line bs h p) ∙ framed_good line h e
+  -- what is made of the bytes that are read, where there are some
+  pub framed_none : (line : List ℕ) → framed n Some None line ≡ None → none ≡ framed n f none line
+  unfolding framed
+  framed_none line e = go (eqb (length line) (chars * n) && all_hex line) e
+    where
+      go : (t : Bool) → cond t (Some (bytes_of line)) None ≡ None → none ≡ cond t (f (bytes_of line)) none
+      go true e = absurd (none-some (bytes_of line) (sym e))
+      go false e = refl
+
+  pub framed_some : (line bs : List ℕ) → framed n Some None line ≡ Some bs → f bs ≡ framed n f none line
+  unfolding framed
+  framed_some line bs e = go (eqb (length line) (chars * n) && all_hex line) e
+    where
+      go : (t : Bool) → cond t (Some (bytes_of line)) None ≡ Some bs → f bs ≡ cond t (f (bytes_of line)) none
+      go true e = ap f (sym (same_Some _ _ e))
+      go false e = absurd (none-some bs e)
 
   -- bytes that are written are read
   pub framed_hex : (bs : List ℕ) → Bytes bs → length bs ≡ n → framed n f none (hex_of bs) ≡ f bs

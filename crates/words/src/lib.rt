@@ -1,26 +1,27 @@
 // Numbers of two bytes, the high one first.
-#![tactic(auto)]
+#![tactic(auto, unfolding(crate::specs::Words::high_of, crate::specs::Words::low_of, crate::specs::Words::word_of))]
 
 ghost use Rattle.std.specs.Prelude.{◌≡◌};
 ghost use Rattle.words.specs.Words.{high_of, low_of, word_of};
 
-// How many values a byte has.
-const BYTE: u16 = 256;
+pub mod line;
 
 pub fn word(h: u8, l: u8) -> u16
     ensures { result ≡ word_of h l }
 {
-    (h as u16) * BYTE + (l as u16)
+    u16::from_be_bytes([h, l])
 }
 
 pub fn high(n: u16) -> u8
     ensures { result ≡ high_of n }
 {
-    (n / BYTE) as u8
+    let [h, _] = n.to_be_bytes();
+    h
 }
 
 pub fn low(n: u16) -> u8
     ensures { result ≡ low_of n }
 {
-    (n % BYTE) as u8
+    let [_, l] = n.to_be_bytes();
+    l
 }

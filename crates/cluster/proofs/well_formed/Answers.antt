@@ -1,32 +1,27 @@
 -- `cluster::well_formed` meets its contract. Assumes nothing.
-use Rattle.cluster.specs.WellFormed.{well_formed}
-use Rattle.base.proofs.Every.{every_none, every_more, every_fails}
-use Rattle.base.proofs.Bools.{said_no, said_yes}
-use native.Mathlib.Omega.{arith}
-use mathlib.Core.Path.{◌≡◌, sym}
+use Rattle.base.proofs.Bools.{said_yes}
+use Rattle.base.proofs.Facts.{mapped_long}
+use Rattle.base.proofs.Numbered.{every_numbered}
+use Rattle.base.specs.Numbers.{every}
+use Rattle.cluster.specs.Servers.{past_server, server_at}
+use Rattle.cluster.specs.WellFormed.{server_ok, well_formed}
+use Rattle.std.proofs.lemmas.Iterator.{YieldsList-from_slice}
+use Rattle.std.proofs.lemmas.Iterator.Consumers.{YieldsList-from_enumerate}
+use Rattle.std.proofs.lemmas.Iterator.Search.{all_from_yields_List}
+use lib.ListN.{length}
+use mathlib.Core.Path.{◌≡◌, ap, ◌∙◌}
+use Prim.Native.Nat.{ℕ}
+use borrow.Author.Tests.{tests}
 use borrow.Author.Rules.{rules}
-use Rattle.cluster.proofs.well_formed.Invariants.{ok}
+use Rattle.cluster.specs.declared.Server.{Server}
 use Rattle.cluster.proofs.well_formed.Goals as goal
 
-pub returns-then-not-size_ok : goal.returns-then-not-size_ok
+pub returns-then-size_ok : goal.returns-then-size_ok
 unfolding well_formed
-returns-then-not-size_ok c = rw (said_no _ _ c.size_ok.ensures c.if-not-size_ok.true)
-
-pub loop-i-init : goal.loop-i-init
-loop-i-init c = (search rules, every_none _)
-
-pub returns-then-not-server_ok : goal.returns-then-not-server_ok
-unfolding well_formed
-returns-then-not-server_ok c =
-    rw (said_yes _ _ c.size_ok.ensures c.if-not-size_ok.false)
-    (sym (every_fails (ok c.args.c) 7 c.loop-i.i (search rules) (said_no _ _ c.server_ok.ensures c.if-not-server_ok.true)))
-
-pub loop-i-preserved : goal.loop-i-preserved
-loop-i-preserved c =
-    (search rules, every_more (ok c.args.c) _ c.loop-i.invariant.1 (said_yes _ _ c.server_ok.ensures c.if-not-server_ok.false))
-
-pub returns : goal.returns
-unfolding well_formed
-returns c =
-    let e : c.loop-i.i ≡ 7 = omega arith in
-    rw (said_yes _ _ c.size_ok.ensures c.if-not-size_ok.false) (sym (rw e at c.loop-i.invariant.1))
+returns-then-size_ok c =
+    let xs = c.args.c.servers in
+    let ok = λ (i : ℕ) (s : Server). server_ok c.args.c.count c.args.c.followers i s in
+    let long : length xs ≡ 7 = search (rules, mapped_long) in
+    rw (said_yes _ _ c.size_ok.ensures c.if-size_ok.true)
+    (all_from_yields_List (λ p. ok p.0 p.1) _ _ _ c.all.ensures.ran (YieldsList-from_enumerate (YieldsList-from_slice xs (cc)) (cc)) (λ x b q k. search (rules, tests))
+    ∙ every_numbered ok xs past_server ∙ ap (λ (n : ℕ). every n (λ i. ok i (server_at c.args.c i))) long)

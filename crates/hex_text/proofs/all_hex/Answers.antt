@@ -1,28 +1,17 @@
 -- `hex_text::all_hex` meets its contract. Assumes nothing.
-use Rattle.hex_text.specs.Digits.{radix}
+use Rattle.hex_text.specs.Digits.{radix, digit_of}
 use Rattle.hex_text.specs.Lines.{all_hex}
-use Rattle.base.specs.Numbers.{greatest}
-use Rattle.base.proofs.Greatest.{greatest_none, greatest_more, greatest_every}
-use native.Mathlib.Omega.{arith}
-use lib.Dec.{ltb}
-use lib.ListN.{length}
-use mathlib.Core.Path.{◌≡◌, ap, ◌∙◌}
-use Prim.Native.Nat.{ℕ}
+use Rattle.hex_text.proofs.Greatest.{fold_every}
+use Rattle.std.proofs.lemmas.Iterator.{YieldsList-from_slice}
+use Rattle.std.proofs.lemmas.Iterator.Consumers.{fold_from_yields_List}
+use borrow.Author.Tests.{tests}
 use borrow.Author.Rules.{rules}
-use Rattle.hex_text.proofs.all_hex.Invariants.{value}
+use lib.Dec.{ltb}
+use mathlib.Core.Path.{ap, ◌∙◌}
+use native.Mathlib.Omega.{arith}
+use Prim.Native.Nat.{ℕ, max}
 use Rattle.hex_text.proofs.all_hex.Goals as goal
-use Rattle.hex_text.proofs.all_hex.Goals.{then-greatest-d, else-greatest-d}
-
-pub loop-i-init : goal.loop-i-init
-loop-i-init c = (search rules, greatest_none _)
-
-pub loop-i-preserved : goal.loop-i-preserved
-loop-i-preserved c =
-    let more = greatest_more (value c.args.line.now) c.loop-i.i in
-    (search rules, elim c.if-greatest-d.branch [ then-greatest-d w ↦ omega (arith, more, c.digit-d.ensures) | else-greatest-d w ↦ omega (arith, more, c.digit-d.ensures) ])
 
 pub returns : goal.returns
 unfolding all_hex
-returns c =
-    let e : c.loop-i.i ≡ length c.args.line.now = omega arith in
-    ap (λ (n : ℕ). ltb n radix) (c.loop-i.invariant.1 ∙ ap (λ (n : ℕ). greatest n (value c.args.line.now)) e) ∙ greatest_every (value c.args.line.now) (length c.args.line.now) radix (omega arith)
+returns c = ap (λ (n : ℕ). ltb n radix) (fold_from_yields_List _ (λ a x. max a (digit_of x)) 0 _ c.fold.ensures.ran (YieldsList-from_slice c.args.line.now cc) (λ a x b q k. search (rules, tests))) ∙ fold_every digit_of radix (omega arith) c.args.line.now 0

@@ -1,9 +1,10 @@
 -- `loads::drafted` meets its contract. Assumes nothing.
-use mathlib.Core.Path.{ap, ◌∙◌}
+use mathlib.Core.Path.{◌≡◌, ap, ◌∙◌}
+use lib.ListN.{length}
 use native.Mathlib.Omega.{arith}
 use Rattle.loads.specs.declared.Draft.{Draft}
 use Rattle.loads.proofs.Lines.{read_none, read_character, read_line, read_last, read_all}
-use Rattle.loads.proofs.drafted.Goals.{else-start-i, else-text-i-eq-LINE_FEED, then-start-i, then-text-i-eq-LINE_FEED}
+use Rattle.loads.proofs.drafted.Goals.{else-start-text, else-text-i-eq-LINE_FEED, then-start-text, then-text-i-eq-LINE_FEED}
 use Rattle.loads.proofs.drafted.Goals as goal
 
 pub loop-i-init : goal.loop-i-init
@@ -15,4 +16,6 @@ loop-i-preserved c =
 
 pub returns : goal.returns
 returns c =
-    elim c.if-start-i.branch [ then-start-i w ↦ ap (λ (x : Draft). x.cluster) w.d-is ∙ read_last c.loop-i.invariant (omega arith) (omega arith) w.with_line-d-then-start-i.ensures | else-start-i w ↦ ap (λ (x : Draft). x.cluster) w.d-is ∙ read_all c.loop-i.invariant (omega arith) (omega arith) ]
+    let z : c.loop-i.i ≡ length c.args.text.now = omega arith in
+    let read = rw z at c.loop-i.invariant in
+    elim c.if-start-text.branch [ then-start-text w ↦ ap (λ (x : Draft). x.cluster) w.d-is ∙ read_last read (omega arith) (omega arith) w.with_line-d-then-start-text.ensures | else-start-text w ↦ ap (λ (x : Draft). x.cluster) w.d-is ∙ read_all read (omega arith) (omega arith) ]

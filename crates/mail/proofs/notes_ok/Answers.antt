@@ -1,25 +1,24 @@
 -- `mail::notes_ok` meets its contract. Assumes nothing.
-use Rattle.mail.specs.Order.{notes_ok}
-use Rattle.base.proofs.Bools.{said_no, said_yes}
-use Rattle.base.proofs.Every.{every_none, every_more, every_fails}
-use native.Mathlib.Omega.{arith}
-use mathlib.Core.Path.{◌≡◌, sym}
+use Rattle.base.specs.Numbers.{every}
+use Rattle.base.proofs.Facts.{mapped_long}
+use Rattle.base.proofs.Numbered.{every_numbered}
+use Rattle.mail.specs.Reports.{zero_note}
+use Rattle.mail.specs.Mails.{note_slots, note_at}
+use Rattle.mail.specs.Order.{note_ok, notes_ok}
+use Rattle.std.proofs.lemmas.Iterator.{YieldsList-from_slice}
+use Rattle.std.proofs.lemmas.Iterator.Consumers.{YieldsList-from_enumerate}
+use Rattle.std.proofs.lemmas.Iterator.Search.{all_from_yields_List}
+use borrow.Author.Tests.{tests}
 use borrow.Author.Rules.{rules}
+use lib.ListN.{length}
+use mathlib.Core.Path.{◌≡◌, ap, ◌∙◌}
+use Prim.Native.Nat.{ℕ}
 use Rattle.mail.proofs.notes_ok.Goals as goal
-
-pub loop-i-init : goal.loop-i-init
-loop-i-init c = (search rules, every_none _)
-
-pub returns-then-not-note_ok : goal.returns-then-not-note_ok
-unfolding notes_ok
-returns-then-not-note_ok c = sym (every_fails _ 7 c.loop-i.i (search rules) (said_no _ _ c.note_ok.ensures c.if-not-note_ok.true))
-
-pub loop-i-preserved : goal.loop-i-preserved
-loop-i-preserved c =
-    (search rules, every_more _ _ c.loop-i.invariant.1 (said_yes _ _ c.note_ok.ensures c.if-not-note_ok.false))
 
 pub returns : goal.returns
 unfolding notes_ok
 returns c =
-    let z : c.loop-i.i ≡ 7 = omega arith in
-    sym (rw z at c.loop-i.invariant.1)
+    let ns = c.args.m.notes in
+    let long : length ns ≡ note_slots = search (rules, mapped_long) in
+    all_from_yields_List (λ p. note_ok c.args.count p.0 p.1) _ _ _ c.all.ensures.ran (YieldsList-from_enumerate (YieldsList-from_slice ns (cc)) (cc)) (λ x b q k. search (rules, tests))
+    ∙ every_numbered (note_ok c.args.count) ns zero_note ∙ ap (λ (n : ℕ). every n (λ i. note_ok c.args.count i (note_at c.args.m i))) long

@@ -1,41 +1,32 @@
 -- `mail::queue_ok` meets its contract. Assumes nothing.
-use Rattle.mail.specs.declared.Queue.{Queue}
+use Rattle.base.specs.Numbers.{every}
+use Rattle.base.proofs.Facts.{mapped_long}
+use Rattle.base.proofs.Numbered.{every_numbered}
+use Rattle.mail.specs.declared.Report.{Report}
+use Rattle.mail.specs.Reports.{zero_report}
 use Rattle.mail.specs.Queues.{queue_limit, report_at}
 use Rattle.mail.specs.Order.{slot_ok, queue_ok}
-use Rattle.base.proofs.Bools.{and_both, and_no, said_no, said_yes}
-use Rattle.base.proofs.Every.{every_none, every_more, every_fails}
-use Rattle.base.proofs.Facts.{tests}
-use native.Mathlib.Omega.{arith}
-use lib.Dec.{ltb, leb}
-use borrow.Author.Tests.{le-leb}
-use mathlib.Core.Path.{◌≡◌, sym}
-use mathlib.Core.Bool.{false}
-use Prim.Native.Nat.{ℕ, ◌<◌}
+use Rattle.std.proofs.lemmas.Iterator.{YieldsList-from_slice}
+use Rattle.std.proofs.lemmas.Iterator.Consumers.{YieldsList-from_enumerate}
+use Rattle.std.proofs.lemmas.Iterator.Search.{all_from_yields_List}
+use borrow.Author.Tests.{tests, le-leb}
 use borrow.Author.Rules.{rules}
+use lib.Dec.{ltb}
+use lib.ListN.{length}
+use mathlib.Core.Path.{◌≡◌, ap, ◌∙◌}
+use Prim.Native.Nat.{ℕ}
 use Rattle.mail.proofs.queue_ok.Goals as goal
 
-slot-fails : (count : ℕ) (q : Queue) (i : ℕ) → i < queue_limit → slot_ok count (ltb i q.len) (report_at q i) ≡ false → false ≡ queue_ok count q
+pub returns-then-q-le-QUEUE_LIMIT : goal.returns-then-q-le-QUEUE_LIMIT
 unfolding queue_ok
-slot-fails count q i h e = sym (and_no (leb q.len queue_limit) _ (every_fails _ queue_limit i h e))
+returns-then-q-le-QUEUE_LIMIT c =
+    let rs = c.args.q.reports in
+    let ok = λ (i : ℕ) (r : Report). slot_ok c.args.count (ltb i c.args.q.len) r in
+    let long : length rs ≡ queue_limit = search (rules, mapped_long) in
+    rw (le-leb _ _ c.if-q-le-QUEUE_LIMIT.true)
+    (all_from_yields_List (λ p. ok p.0 p.1) _ _ _ c.all.ensures.ran (YieldsList-from_enumerate (YieldsList-from_slice rs (cc)) (cc)) (λ x b q k. search (rules, tests))
+    ∙ every_numbered ok rs zero_report ∙ ap (λ (n : ℕ). every n (λ i. ok i (report_at c.args.q i))) long)
 
-pub returns-then-len-gt-QUEUE_LIMIT : goal.returns-then-len-gt-QUEUE_LIMIT
+pub returns-else-q-le-QUEUE_LIMIT : goal.returns-else-q-le-QUEUE_LIMIT
 unfolding queue_ok
-returns-then-len-gt-QUEUE_LIMIT c = search (rules, tests)
-
-pub loop-i-init : goal.loop-i-init
-loop-i-init c = (search rules, every_none _)
-
-pub returns-then-not-slot_ok : goal.returns-then-not-slot_ok
-unfolding queue_ok
-returns-then-not-slot_ok c =
-    slot-fails c.args.count c.args.q c.loop-i.i (search rules) (said_no _ _ c.slot_ok.ensures c.if-not-slot_ok.true)
-
-pub loop-i-preserved : goal.loop-i-preserved
-loop-i-preserved c =
-    (search rules, every_more _ _ c.loop-i.invariant.1 (said_yes _ _ c.slot_ok.ensures c.if-not-slot_ok.false))
-
-pub returns : goal.returns
-unfolding queue_ok
-returns c =
-    let z : c.loop-i.i ≡ 8 = omega arith in
-    sym (and_both _ _ (le-leb _ _ c.if-len-gt-QUEUE_LIMIT.false) (rw z at c.loop-i.invariant.1))
+returns-else-q-le-QUEUE_LIMIT c = search (rules, tests)

@@ -8,6 +8,3 @@ use Rattle.plans.proofs.all_voters.Given as goal
 
 abbrev pub invariant-loop-i : goal.invariant-loop-i
 invariant-loop-i l = (l.i ≤ server_count l.c) × (l.set ≡ set_from (votes l.c.followers) l.i (server_count l.c - l.i))
-
-abbrev pub decreases-loop-i : goal.decreases-loop-i
-decreases-loop-i l = l.i

@@ -1,14 +1,16 @@
 -- `saved::allows` meets its contract. Assumes nothing.
 use mathlib.Core.Path.{◌≡◌, sym, ap, ◌∙◌}
 use mathlib.Core.Bool.{Bool, true, false, ◌&&◌}
-use native.Mathlib.Omega.{arith}
 use borrow.Author.Rules.{rules}
+use borrow.Author.Tests.{tests}
+use Rattle.std.proofs.lemmas.Iterator.{YieldsList-from_slice}
+use Rattle.std.proofs.lemmas.Iterator.Search.{all_from_yields_List}
 use Rattle.base.specs.Numbers.{every}
-use Rattle.base.proofs.Bools.{said_no, said_yes}
-use Rattle.base.proofs.Every.{every_none, every_more, every_fails}
+use Rattle.base.proofs.Facts.{mapped_long}
 use Rattle.cluster.specs.declared.Cluster.{Cluster}
-use Rattle.cluster.specs.Servers.{most_servers, server_at}
-use Rattle.saved.specs.Editions.{Edition, allows_server, allows_followers, allows}
+use Rattle.cluster.specs.Servers.{most_servers, past_server, server_at}
+use Rattle.saved.specs.Editions.{Edition, editions, edition_numbered, allows_server, allows_followers, allows}
+use Rattle.saved.proofs.Listed.{all_places}
 use Rattle.saved.proofs.allows.Goals as goal
 
 -- the followers, and then server by server
@@ -17,25 +19,16 @@ module _ (e : Edition) (c : Cluster) where
   unfolding allows
   not-these f = sym (rw f)
 
-  by-servers : {b : Bool} → allows_followers e.widths c.followers ≡ true → every most_servers (λ i. allows_server e (server_at c i)) ≡ b → b ≡ allows e c
+  by-servers : {b : Bool} → allows_followers e.widths c.followers ≡ true → b ≡ every most_servers (λ i. allows_server e (server_at c i)) → b ≡ allows e c
   unfolding allows
-  by-servers f p = sym p ∙ sym (ap (λ (x : Bool). x && every most_servers (λ i. allows_server e (server_at c i))) f)
+  by-servers f p = p ∙ sym (ap (λ (x : Bool). x && every most_servers (λ i. allows_server e (server_at c i))) f)
 
-pub returns-then-not-allows_followers : goal.returns-then-not-allows_followers
-returns-then-not-allows_followers c = not-these _ _ (said_no _ _ c.allows_followers.ensures c.if-not-allows_followers.true)
+pub returns-else-allows_followers : goal.returns-else-allows_followers
+returns-else-allows_followers c = c.if-allows_followers.false ∙ not-these _ _ (sym c.allows_followers.ensures ∙ c.if-allows_followers.false)
 
-pub loop-i-init : goal.loop-i-init
-loop-i-init c = (search rules, every_none _)
-
-pub returns-then-not-allows_server : goal.returns-then-not-allows_server
-returns-then-not-allows_server c =
-    by-servers _ _ (said_yes _ _ c.allows_followers.ensures c.if-not-allows_followers.false)
-    (every_fails _ most_servers c.loop-i.i (search rules) (said_no _ _ c.allows_server.ensures c.if-not-allows_server.true))
-
-pub loop-i-preserved : goal.loop-i-preserved
-loop-i-preserved c = (search rules, every_more _ _ c.loop-i.invariant.1 (said_yes _ _ c.allows_server.ensures c.if-not-allows_server.false))
-
-pub returns : goal.returns
-returns c =
-    let z : c.loop-i.i ≡ most_servers = omega arith in
-    by-servers _ _ (said_yes _ _ c.allows_followers.ensures c.if-not-allows_followers.false) (rw z at c.loop-i.invariant.1)
+pub returns-then-allows_followers : goal.returns-then-allows_followers
+returns-then-allows_followers c =
+    let e = edition_numbered editions c.args.edition in
+    by-servers e c.args.c (sym c.allows_followers.ensures ∙ c.if-allows_followers.true)
+    (all_from_yields_List (allows_server e) _ _ _ c.all.ensures.ran (YieldsList-from_slice c.args.c.servers cc) (λ x b q k. search (rules, tests))
+    ∙ all_places (allows_server e) c.args.c.servers past_server most_servers (search (rules, mapped_long)))

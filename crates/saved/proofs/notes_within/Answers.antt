@@ -1,25 +1,19 @@
 -- `saved::notes_within` meets its contract. Assumes nothing.
-use mathlib.Core.Path.{◌≡◌, sym}
-use native.Mathlib.Omega.{arith}
+use mathlib.Core.Path.{◌∙◌}
+use lib.Dec.{leb}
 use borrow.Author.Rules.{rules}
-use borrow.Author.Tests.{le-leb, lt-leb}
-use Rattle.base.proofs.Every.{every_none, every_more, every_fails}
+use borrow.Author.Tests.{tests}
+use Rattle.std.proofs.lemmas.Iterator.{YieldsList-from_slice}
+use Rattle.std.proofs.lemmas.Iterator.Search.{all_from_yields_List}
+use Rattle.base.proofs.Facts.{mapped_long}
+use Rattle.mail.specs.Reports.{zero_note}
 use Rattle.mail.specs.Mails.{note_slots}
 use Rattle.saved.specs.Editions.{notes_within}
+use Rattle.saved.proofs.Listed.{all_places}
 use Rattle.saved.proofs.notes_within.Goals as goal
-
-pub loop-i-init : goal.loop-i-init
-loop-i-init c = (search rules, every_none _)
-
-pub returns-then-most-n : goal.returns-then-most-n
-unfolding notes_within
-returns-then-most-n c = sym (every_fails _ note_slots c.loop-i.i (search rules) (lt-leb _ _ c.if-most-n.true))
-
-pub loop-i-preserved : goal.loop-i-preserved
-loop-i-preserved c = (search rules, every_more _ _ c.loop-i.invariant.1 (le-leb _ _ c.if-most-n.false))
 
 pub returns : goal.returns
 unfolding notes_within
 returns c =
-    let z : c.loop-i.i ≡ note_slots = omega arith in
-    sym (rw z at c.loop-i.invariant.1)
+    all_from_yields_List (λ n. leb n.len c.args.most) _ _ _ c.all.ensures.ran (YieldsList-from_slice c.args.m.notes cc) (λ x b q k. search (rules, tests))
+    ∙ all_places (λ n. leb n.len c.args.most) c.args.m.notes zero_note note_slots (search (rules, mapped_long))

@@ -6,11 +6,8 @@ use borrow.Author.Rules.{rules}
 use Rattle.base.proofs.Facts.{mapped_long}
 use Rattle.server_log.specs.Entries.{zero_entry}
 use Rattle.server_log.specs.Logs.{log_limit}
-use Rattle.saved.proofs.Going.{going_length, each_start, each_room, each_more, each_end}
+use Rattle.saved.proofs.Going.{each_room, each_more}
 use Rattle.saved.proofs.put_entries.Goals as goal
-
-pub loop-i-init : goal.loop-i-init
-loop-i-init c = each_start (omega arith)
 
 pub put_line-w-requires : goal.put_line-w-requires
 put_line-w-requires c =
@@ -21,9 +18,3 @@ pub loop-i-preserved : goal.loop-i-preserved
 loop-i-preserved c =
     let all : length c.args.g.entries ≡ log_limit = search (rules, mapped_long) in
     each_more c.loop-i.invariant zero_entry (omega arith) (omega (arith, all)) c.entry_frame-f.ensures c.put_line-w.ensures
-
-pub shape_of-out : goal.shape_of-out
-shape_of-out c = going_length c.loop-i.invariant.going
-
-pub returns : goal.returns
-returns c = each_end c.loop-i.invariant (omega arith)

@@ -58,9 +58,6 @@ pub bounds-out-end : goal.bounds-out-end
 bounds-out-end c =
     below c.args.out.now c.args.at c.args.frame.now c.requires _ c.enhex.ensures
 
-pub overflow_add-result : goal.overflow_add-result
-overflow_add-result c = let h = inside c.args.out.now c.args.at c.args.frame.now c.requires in search rules
-
 pub returns : goal.returns
 returns c =
     line c.args.out.now c.args.at c.args.frame.now c.requires _ c.enhex.ensures

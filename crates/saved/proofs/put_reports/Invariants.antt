@@ -1,5 +1,4 @@
 -- What the loop of `saved::put_reports` keeps. Assumes nothing.
-use Prim.Native.Nat.{◌-◌}
 use Rattle.saved.specs.Editions.{widths1}
 use Rattle.saved.specs.Layout.{report_frame}
 use Rattle.saved.proofs.Going.{Each}
@@ -7,6 +6,3 @@ use Rattle.saved.proofs.put_reports.Given as goal
 
 abbrev pub invariant-loop-i : goal.invariant-loop-i
 invariant-loop-i l = Each (report_frame widths1) l.q.len l.q.reports l.initial.out l.at l.out l.w l.i
-
-abbrev pub decreases-loop-i : goal.decreases-loop-i
-decreases-loop-i l = l.q.len - l.i

@@ -33,9 +33,6 @@ put_server-w-requires c =
       longest_server_in_bounds = omega (arith, at_most_seven c.args.c c.requires.c_value, going_length c.loop-i.invariant.2);
     }
 
-pub overflow_add-i : goal.overflow_add-i
-overflow_add-i c = let h : c.args.c.count ≤ most_servers = at_most_seven c.args.c c.requires.c_value in search rules
-
 pub loop-i-preserved : goal.loop-i-preserved
 loop-i-preserved c =
     let all : length c.args.c.servers ≡ most_servers = search (rules, mapped_long) in

@@ -1,5 +1,5 @@
 -- What the loop of `saved::put_servers` keeps. Assumes nothing.
-use Prim.Native.Nat.{◌+◌, ◌-◌, ◌*◌, ◌≤◌}
+use Prim.Native.Nat.{◌+◌, ◌*◌, ◌≤◌}
 use lib.ListN.{take, drop}
 use Rattle.saved.specs.Editions.{widths1}
 use Rattle.saved.specs.Saved.{all_frames}
@@ -10,6 +10,3 @@ use Rattle.saved.proofs.put_servers.Given as goal
 abbrev pub invariant-loop-i : goal.invariant-loop-i
 invariant-loop-i l =
     (l.i ≤ l.c.count) × (l.w ≤ l.at + l.i * longest_server) × Going l.initial.out l.at l.out l.w (all_frames widths1 (take l.c.count l.c.servers)) (all_frames widths1 (drop l.i (take l.c.count l.c.servers)))
-
-abbrev pub decreases-loop-i : goal.decreases-loop-i
-decreases-loop-i l = l.c.count - l.i

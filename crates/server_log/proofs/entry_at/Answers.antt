@@ -1,23 +1,20 @@
 -- `server_log::entry_at` meets its contract. Assumes nothing.
-use Rattle.server_log.specs.Logs.{log_limit}
-use Rattle.server_log.proofs.Live.{entry_at_zero, entry_at_past, entry_at_before, length_live}
-use Rattle.base.proofs.Facts.{mapped_long}
-use lib.ListN.{length, length-take}
-use mathlib.Core.Path.{◌≡◌}
+use Rattle.server_log.specs.Entries.{zero_entry}
+use Rattle.server_log.specs.Logs.{live}
+use Rattle.server_log.proofs.Live.{entry_at_zero, entry_at_past, entry_at_before}
+use lib.ListN.{get_or, length-take}
+use Prim.Native.Nat.{ℕ, ◌≤◌}
+use mathlib.Core.Path.{ap, ◌∙◌}
 use native.Mathlib.Omega.{arith}
-use borrow.Author.Rules.{rules}
 use Rattle.server_log.proofs.entry_at.Goals as goal
 
-pub returns-then-n-eq0 : goal.returns-then-n-eq0
-returns-then-n-eq0 c = search (rules, entry_at_zero)
+pub returns-in-Some : goal.returns-in-Some
+returns-in-Some c =
+    let e = c.in-Some.ensures in
+    ap (λ (k : ℕ). get_or c.args.g.entries k zero_entry) e.1 ∙ entry_at_before c.args.g c.args.n (omega (arith, e.0)) (omega (arith, e, length-take c.args.g.len c.args.g.entries))
 
-pub returns-then-g-n : goal.returns-then-g-n
-returns-then-g-n c = entry_at_past _ _ (omega (arith, length-take c.args.g.len c.args.g.entries))
+pub returns-in_default : goal.returns-in_default
+returns-in_default c = let e = c.in-Some.ensures in entry_at_past (live c.args.g) c.args.n (omega (arith, e))
 
-pub returns-then-n-gt-LOG_LIMIT : goal.returns-then-n-gt-LOG_LIMIT
-returns-then-n-gt-LOG_LIMIT c =
-    let h : length c.args.g.entries ≡ log_limit = search (rules, mapped_long) in
-    entry_at_past _ _ (omega (arith, length_live c.args.g log_limit h))
-
-pub returns : goal.returns
-returns c = entry_at_before c.args.g _ (search rules) (search rules)
+pub returns-in_default-2 : goal.returns-in_default-2
+returns-in_default-2 c = let e : 1 ≤ c.args.n → ⊥ = c.in_default.ensures in entry_at_zero (live c.args.g) c.args.n (omega (arith, e))

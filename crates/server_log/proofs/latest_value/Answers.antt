@@ -1,39 +1,33 @@
 -- `server_log::latest_value` meets its contract. Assumes nothing.
-use Rattle.server_log.specs.Entries.{entry_at, zero_entry}
-use Rattle.server_log.specs.declared.Log.{Log}
-use Rattle.server_log.proofs.Live.{length_live, entry_at_take, entry_at_slot}
-use Rattle.server_log.proofs.Latest.{latest_all, latest_here, latest_below, latest_none}
-use Rattle.server_log.specs.Logs.{log_limit, live}
-use Rattle.base.proofs.Facts.{mapped_long}
-use native.Mathlib.Omega.{arith}
-use lib.ListN.{length, take, length-take, get_or}
-use mathlib.Core.Path.{◌≡◌, ap, ◌∙◌}
-use Prim.Native.Nat.{◌≤◌, ◌-◌, ℕ, suc}
+use Rattle.server_log.specs.declared.Entry.{Entry}
+use Rattle.server_log.proofs.Rowed.{found_back}
+use Rattle.std.proofs.lemmas.Iterator.Adapters.{YieldsList-from_rev_slice}
+use Rattle.std.proofs.lemmas.Iterator.Search.{find_from_yields_List}
+use Rattle.std.specs.Option.{option_map}
+use Rattle.std.specs.List.{find}
+use Rattle.std.specs.declared.option.Option.TheVariants.{Some, None}
+use denote.Bor.{Bor}
+use mathlib.Core.List.{reverse}
+use mathlib.Core.Path.{◌≡◌, ap, sym, ◌∙◌}
+use lib.ListN.{take}
+use lib.Dec.{eqb}
 use borrow.Author.Rules.{rules}
+use borrow.Author.Tests.{tests}
 use Rattle.server_log.proofs.latest_value.Goals as goal
+use Rattle.server_log.proofs.latest_value.Goals.{After-find}
 
--- a position among the first n entries has its slot before it
-slot : (g : Log) (n i : ℕ) → 1 ≤ i → i ≤ length (take n (live g)) → entry_at (take n (live g)) i ≡ get_or g.entries (i - 1) zero_entry
-slot g n i one h =
-    let z : i ≡ suc (i - 1) = omega arith in
-    ap (entry_at (take n (live g))) z ∙ entry_at_take n (suc (i - 1)) (live g) (omega (arith, length-take n (live g)))
-    ∙ entry_at_slot g (i - 1) (omega (arith, length-take n (live g), length-take g.len g.entries))
+-- what the search from the end found
+found : (c : After-find) → option_map (λ (e : Bor Entry). e.now) c.find.result ≡ find (λ e. eqb e.key c.args.key) (reverse (take c.last_of.result c.args.g.entries))
+found c =
+    find_from_yields_List (λ (e : Entry). eqb e.key c.args.key) _ _ c.find.result c.find.ensures.ran
+    (YieldsList-from_rev_slice (take c.last_of.result c.args.g.entries) (cc (c.iter.ensures.rest, c.rev.ensures.source))) (λ x b q k. search (rules, tests))
 
-pub loop-i-init : goal.loop-i-init
-loop-i-init c =
-    let l : c.last_of-i.result ≡ length (take c.args.n (live c.args.g)) = omega (arith, c.last_of-i.ensures, length-take c.args.n (live c.args.g)) in
-    let h : length c.args.g.entries ≡ log_limit = search (rules, mapped_long) in
-    (omega (arith, length_live c.args.g log_limit h, length-take c.args.n (live c.args.g)), omega arith, latest_all l)
+pub returns-in-Some : goal.returns-in-Some
+returns-in-Some c =
+    found_back c.args.g c.args.key c.args.n c.last_of.result (Some c.in-Some.e.now) c.last_of.ensures
+    (ap (option_map (λ (e : Bor Entry). e.now)) (sym c.in-Some.is) ∙ found c.before)
 
-pub loop-i-preserved : goal.loop-i-preserved
-loop-i-preserved c =
-    (omega arith, omega arith, latest_below c.loop-i.invariant.2 _ (slot c.args.g c.args.n c.loop-i.i (omega arith) c.loop-i.invariant.1) c.if-e-key.false)
-
-pub returns-then-i-lt1 : goal.returns-then-i-lt1
-returns-then-i-lt1 c =
-    let z : c.loop-i.i ≡ 0 = omega arith in
-    latest_none (rw z at c.loop-i.invariant.2)
-
-pub returns-then-e-key : goal.returns-then-e-key
-returns-then-e-key c =
-    latest_here c.loop-i.invariant.2 _ (slot c.args.g c.args.n c.loop-i.i (omega arith) c.loop-i.invariant.1) (λ z. omega arith) c.if-e-key.true
+pub returns-in-None : goal.returns-in-None
+returns-in-None c =
+    found_back c.args.g c.args.key c.args.n c.last_of.result None c.last_of.ensures
+    (ap (option_map (λ (e : Bor Entry). e.now)) (sym c.in-None.is) ∙ found c.before)

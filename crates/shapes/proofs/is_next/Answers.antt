@@ -1,12 +1,13 @@
 -- `shapes::is_next` meets its contract. Assumes nothing.
 use mathlib.Core.Path.{◌≡◌, refl, sym, ap, ◌∙◌}
-use mathlib.Core.Bool.{Bool, true, false, ◌&&◌}
+use mathlib.Core.Bool.{Bool, true, false, ◌&&◌, true≢false}
 use mathlib.Core.List.{List}
 use Prim.Native.Nat.{ℕ, ◌*◌, ◌<◌}
 use native.Mathlib.Omega.{arith}
+use borrow.Author.Tests.{ne_eqb}
 use lib.Dec.{eqb}
 use lib.ListN.{replicate}
-use Rattle.base.proofs.Bools.{said_no, said_yes, and_no}
+use Rattle.base.proofs.Bools.{and_no}
 use Rattle.hex_text.specs.Lines.{chars, bytes_of, over}
 use Rattle.words.specs.Words.{byte_at, framed}
 use Rattle.words.proofs.Framed.{framed_other, framed_spoilt, framed_good}
@@ -18,6 +19,7 @@ use Rattle.saved.specs.Written.{most_bytes}
 use Rattle.shapes.specs.Walk.{edition_for, is_next}
 use Rattle.shapes.proofs.Frames.{small, bytes_same, says_so, edition_same}
 use Rattle.shapes.proofs.Next.{reads_all}
+use Rattle.shapes.proofs.is_next.Goals.{then-line-size_of, else-line-size_of}
 use Rattle.shapes.proofs.is_next.Goals as goal
 
 -- by the edition that a frame of the sort has with these bytes: a line that is no frame there; and one that is told by its bytes
@@ -51,18 +53,24 @@ module _ (k : Sort) (n : ℕ) (line : List ℕ) {bs : List ℕ} {own : ℕ} (b :
 pub overflow_mul-size_of : goal.overflow_mul-size_of
 overflow_mul-size_of c = omega (arith, small (reads_all c.edition_for-own.result) c.args.k, c.size_of.ensures)
 
-pub returns-then-line-size_of : goal.returns-then-line-size_of
-returns-then-line-size_of c =
-    not-next c.args.k c.args.edition c.args.line.now c.bytes_in-b.ensures c.edition_for-own.ensures
-    (framed_other _ (says_so c.args.k) false _ (λ l. c.if-line-size_of.true (l ∙ ap (λ (n : ℕ). chars * n) (sym c.size_of.ensures))))
+pub returns-then-all_hex : goal.returns-then-all_hex
+returns-then-all_hex c =
+    elim c.if-line-size_of.branch [
+      | then-line-size_of w ↦
+          c.says.ensures
+          ∙ by_bytes c.args.k c.args.edition c.args.line.now c.first_bytes-b.ensures c.edition_for-own.ensures
+          (framed_good _ (says_so c.args.k) false c.args.line.now (w.if-line-size_of.true ∙ ap (λ (n : ℕ). chars * n) c.size_of.ensures) (sym w.all_hex.ensures ∙ sym w.value-is ∙ c.if-all_hex.true))
+      | else-line-size_of w ↦ absurd (true≢false (sym c.if-all_hex.true ∙ w.value-is ∙ ne_eqb _ _ w.if-line-size_of.false))
+    ]
 
-pub returns-then-not-all_hex : goal.returns-then-not-all_hex
-returns-then-not-all_hex c =
-    not-next c.args.k c.args.edition c.args.line.now c.bytes_in-b.ensures c.edition_for-own.ensures
-    (framed_spoilt _ (says_so c.args.k) false _ (c.if-line-size_of.false ∙ ap (λ (n : ℕ). chars * n) c.size_of.ensures) (said_no _ _ c.all_hex.ensures c.if-not-all_hex.true))
-
-pub returns : goal.returns
-returns c =
-    c.says.ensures
-    ∙ by_bytes c.args.k c.args.edition c.args.line.now c.bytes_in-b.ensures c.edition_for-own.ensures
-    (framed_good _ (says_so c.args.k) false c.args.line.now (c.if-line-size_of.false ∙ ap (λ (n : ℕ). chars * n) c.size_of.ensures) (said_yes _ _ c.all_hex.ensures c.if-not-all_hex.false))
+pub returns-else-all_hex : goal.returns-else-all_hex
+returns-else-all_hex c =
+    c.if-all_hex.false
+    ∙ elim c.if-line-size_of.branch [
+      | then-line-size_of w ↦
+          not-next c.args.k c.args.edition c.args.line.now c.first_bytes-b.ensures c.edition_for-own.ensures
+          (framed_spoilt _ (says_so c.args.k) false _ (w.if-line-size_of.true ∙ ap (λ (n : ℕ). chars * n) c.size_of.ensures) (sym w.all_hex.ensures ∙ sym w.value-is ∙ c.if-all_hex.false))
+      | else-line-size_of w ↦
+          not-next c.args.k c.args.edition c.args.line.now c.first_bytes-b.ensures c.edition_for-own.ensures
+          (framed_other _ (says_so c.args.k) false _ (λ l. w.if-line-size_of.false (l ∙ ap (λ (n : ℕ). chars * n) (sym c.size_of.ensures))))
+    ]

@@ -1,5 +1,6 @@
 -- `shapes::size_of` meets its contract. Assumes nothing.
 use mathlib.Core.Path.{◌≡◌, refl, sym, ap, ◌∙◌}
+use mathlib.Core.Logic.{⊎_elim}
 use Prim.Native.Nat.{ℕ}
 use Rattle.base.proofs.Cases.{◌▸◌}
 use Rattle.saved.specs.declared.Sort.{Sort}
@@ -23,7 +24,4 @@ pub returns-in-Entry : goal.returns-in-Entry
 returns-in-Entry c = later c.args.edition S.Entry c.in-Entry.is refl
 
 pub returns-in-Note : goal.returns-in-Note
-returns-in-Note c = later c.args.edition S.Note c.in-Note.is refl
-
-pub returns-in-Report : goal.returns-in-Report
-returns-in-Report c = later c.args.edition S.Report c.in-Report.is refl
+returns-in-Note c = ⊎_elim (λ e. later c.args.edition S.Note e refl) (λ e. later c.args.edition S.Report e refl) c.in-Note.is

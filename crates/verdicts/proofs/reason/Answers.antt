@@ -1,45 +1,15 @@
 -- `verdicts::reason` meets its contract. Assumes nothing.
 use mathlib.Core.List.{List}
-use mathlib.Core.Path.{sym, ap, ◌∙◌}
-use lib.Seq.{length-take-le}
+use mathlib.Core.Path.{ap, ◌∙◌}
 use Rattle.server_log.specs.declared.Entry.{Entry}
 use Rattle.server_log.specs.Logs.{live}
 use Rattle.histories.specs.Committed.{Committed, entries_of}
 use Rattle.histories.specs.Reasons.{why_of}
-use Rattle.verdicts.proofs.Filled.{all_fit, lent_columns, columns_same}
+use Rattle.verdicts.proofs.Filled.{lent_columns, columns_same}
 use Rattle.verdicts.proofs.reason.Goals as goal
-
-pub slice_bounds-terms-end : goal.slice_bounds-terms-end
-slice_bounds-terms-end c = (all_fit c.args.g c.length_of-n.result c.spread-c.result c.length_of-n.ensures c.spread-c.ensures).terms
-
-pub slice_bounds-why-end : goal.slice_bounds-why-end
-slice_bounds-why-end c = sym (length-take-le c.length_of-n.result c.spread-c.result.terms (all_fit c.args.g c.length_of-n.result c.spread-c.result c.length_of-n.ensures c.spread-c.ensures).terms)
-
-pub slice_bounds-keys-end : goal.slice_bounds-keys-end
-slice_bounds-keys-end c = (all_fit c.args.g c.length_of-n.result c.spread-c.result c.length_of-n.ensures c.spread-c.ensures).keys
-
-pub slice_bounds-why-end-2 : goal.slice_bounds-why-end-2
-slice_bounds-why-end-2 c = sym (length-take-le c.length_of-n.result c.spread-c.result.keys (all_fit c.args.g c.length_of-n.result c.spread-c.result c.length_of-n.ensures c.spread-c.ensures).keys)
-
-pub slice_bounds-values-end : goal.slice_bounds-values-end
-slice_bounds-values-end c = (all_fit c.args.g c.length_of-n.result c.spread-c.result c.length_of-n.ensures c.spread-c.ensures).values
-
-pub slice_bounds-why-end-3 : goal.slice_bounds-why-end-3
-slice_bounds-why-end-3 c = sym (length-take-le c.length_of-n.result c.spread-c.result.values (all_fit c.args.g c.length_of-n.result c.spread-c.result c.length_of-n.ensures c.spread-c.ensures).values)
-
-pub slice_bounds-ps-end : goal.slice_bounds-ps-end
-slice_bounds-ps-end c = (all_fit c.args.g c.length_of-n.result c.spread-c.result c.length_of-n.ensures c.spread-c.ensures).ps
-
-pub slice_bounds-why-end-4 : goal.slice_bounds-why-end-4
-slice_bounds-why-end-4 c = sym (length-take-le c.length_of-n.result c.spread-c.result.ps (all_fit c.args.g c.length_of-n.result c.spread-c.result c.length_of-n.ensures c.spread-c.ensures).ps)
-
-pub slice_bounds-ls-end : goal.slice_bounds-ls-end
-slice_bounds-ls-end c = (all_fit c.args.g c.length_of-n.result c.spread-c.result c.length_of-n.ensures c.spread-c.ensures).ls
-
-pub slice_bounds-why-end-5 : goal.slice_bounds-why-end-5
-slice_bounds-why-end-5 c = sym (length-take-le c.length_of-n.result c.spread-c.result.ls (all_fit c.args.g c.length_of-n.result c.spread-c.result c.length_of-n.ensures c.spread-c.ensures).ls)
 
 pub returns : goal.returns
 returns c =
-    c.why.ensures ∙ ap (λ (x : Committed). why_of (entries_of x) c.args.r) (lent_columns c.args.g c.length_of-n.result c.length_of-n.ensures c.spread-c.result c.spread-c.ensures)
+    c.why.ensures
+    ∙ ap (λ (x : Committed). why_of (entries_of x) c.args.r) (c.lend-log.ensures ∙ lent_columns c.args.g c.length_of-n.result c.length_of-n.ensures c.spread_of-c.result c.spread_of-c.ensures)
     ∙ ap (λ (es : List Entry). why_of es c.args.r) (columns_same (live c.args.g))

@@ -1,25 +1,16 @@
 -- `cluster::sets::apart` meets its contract. Assumes nothing.
-use Rattle.cluster.specs.Sets.{bits, is_apart}
-use Rattle.base.proofs.Every.{every_none, every_more, every_fails}
-use native.Mathlib.Omega.{arith}
-use mathlib.Core.Bool.{not}
-use mathlib.Core.Path.{◌≡◌, ap, sym, ◌∙◌}
+use Rattle.base.proofs.Numbered.{every_below}
+use Rattle.cluster.specs.Sets.{bits, is_apart, member}
+use Rattle.std.proofs.lemmas.Iterator.{YieldsList-from_range}
+use Rattle.std.proofs.lemmas.Iterator.Search.{all_from_yields_List}
+use mathlib.Core.Bool.{not, ◌&&◌}
+use mathlib.Core.Path.{refl, ◌∙◌}
+use Prim.Native.Nat.{ℕ}
+use borrow.Author.Tests.{tests}
 use borrow.Author.Rules.{rules}
-use Rattle.cluster.proofs.sets.apart.Invariants.{ok}
 use Rattle.cluster.proofs.sets.apart.Goals as goal
-
-pub loop-i-init : goal.loop-i-init
-loop-i-init c = (search rules, every_none _)
-
-pub returns-then-in_both : goal.returns-then-in_both
-unfolding is_apart
-returns-then-in_both c =
-    sym (every_fails (ok c.args.set c.args.followers) bits c.loop-i.i (search rules) (ap not (sym c.in_both.ensures ∙ c.if-in_both.true)))
-
-pub loop-i-preserved : goal.loop-i-preserved
-loop-i-preserved c =
-    (search rules, every_more (ok c.args.set c.args.followers) _ c.loop-i.invariant.1 (ap not (sym c.in_both.ensures ∙ c.if-in_both.false)))
 
 pub returns : goal.returns
 unfolding is_apart
-returns c = let e : c.loop-i.i ≡ bits = omega arith in sym (rw e at c.loop-i.invariant.1)
+returns c =
+    all_from_yields_List (λ (i : ℕ). not (member c.args.set i && member c.args.followers i)) _ _ _ c.all.ensures.ran (YieldsList-from_range 0 bits bits refl refl) (λ x b q k. search (rules, tests)) ∙ every_below _ bits

@@ -5,6 +5,3 @@ use Rattle.cluster.proofs.sets.majority.Goals as goal
 
 pub overflow_mul-result : goal.overflow_mul-result
 overflow_mul-result c = omega (arith, members_few c.args.set)
-
-pub returns : goal.returns
-returns c = rw c.members.ensures

@@ -1,18 +1,10 @@
 -- What the loop of `counts::advances::highest_passing` keeps. Assumes nothing.
-use Rattle.counts.specs.Advances.{backs, passes}
-use Rattle.cluster.specs.Sets.{votes}
+use Rattle.counts.specs.Advances.{passes}
 use Rattle.server_log.specs.Logs.{length_of}
-use Rattle.base.specs.Numbers.{count, highest}
-use mathlib.Core.Bool.{◌&&◌}
+use Rattle.base.specs.Numbers.{highest}
 use mathlib.Core.Path.{◌≡◌}
-use Prim.Native.Nat.{◌≤◌, ◌-◌}
+use Prim.Native.Nat.{◌≤◌}
 use Rattle.counts.proofs.advances.highest_passing.Given as goal
-
-abbrev pub invariant-loop-i : goal.invariant-loop-i
-invariant-loop-i l = (l.i ≤ l.size) × (l.k ≤ l.i) × (l.k ≡ count l.i (λ j. votes l.followers j && backs l.s l.a l.n j))
-
-abbrev pub decreases-loop-i : goal.decreases-loop-i
-decreases-loop-i l = l.size - l.i
 
 abbrev pub invariant-loop-n : goal.invariant-loop-n
 invariant-loop-n l = (l.n ≤ length_of l.s.log) × (highest (passes l.size l.followers l.s l.a) (length_of l.s.log) ≡ highest (passes l.size l.followers l.s l.a) l.n)

@@ -3,9 +3,7 @@ use Rattle.words.specs.Words.{high_of, low_of}
 use Rattle.frames.specs.Layout.{bytes_of_frame}
 use Rattle.frames.specs.Kinds.{step_of_frame, is_table}
 use Rattle.base.specs.Numbers.{every}
-use lib.Dec.{eqb}
-use mathlib.Core.Bool.{Bool, true, cond}
-use mathlib.Core.Path.{refl, sym, ap, ◌∙◌}
+use mathlib.Core.Path.{refl}
 use borrow.Author.Rules.{rules}
 use Rattle.frames.proofs.masks.byte_ok.Goals as goal
 
@@ -13,9 +11,3 @@ use Rattle.frames.proofs.masks.byte_ok.Goals as goal
 pub must_be_zero-requires : goal.must_be_zero-requires
 unfolding is_table every step_of_frame bytes_of_frame high_of low_of
 must_be_zero-requires c = (refl, search rules, search rules)
-
-pub returns-then-must_be_zero : goal.returns-then-must_be_zero
-returns-then-must_be_zero c = ap (λ (t : Bool). cond t (eqb c.args.b 0) true) (sym c.if-must_be_zero.true ∙ c.must_be_zero.ensures)
-
-pub returns-else-must_be_zero : goal.returns-else-must_be_zero
-returns-else-must_be_zero c = ap (λ (t : Bool). cond t (eqb c.args.b 0) true) (sym c.if-must_be_zero.false ∙ c.must_be_zero.ensures)

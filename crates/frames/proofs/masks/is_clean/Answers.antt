@@ -1,30 +1,22 @@
 -- `frames::masks::is_clean` meets its contract. Assumes nothing.
+use Rattle.std.proofs.lemmas.Iterator.{YieldsList-from_range}
+use Rattle.std.proofs.lemmas.Iterator.Search.{all_from_yields_List}
+use Rattle.std.specs.List.{range_with_len}
+use Rattle.words.specs.Words.{byte_at}
 use Rattle.frames.specs.Layout.{step_bytes}
-use Rattle.frames.specs.Kinds.{is_clean}
+use Rattle.frames.specs.Kinds.{byte_ok, is_clean}
 use Rattle.base.specs.Numbers.{every}
-use Rattle.base.proofs.Bools.{said_no, said_yes}
-use Rattle.base.proofs.Every.{every_none, every_more, every_fails}
-use native.Mathlib.Omega.{arith}
-use mathlib.Core.Path.{◌≡◌, ap, sym, ◌∙◌}
+use Rattle.base.proofs.Every.{every_listed}
+use mathlib.Core.Bool.{Bool}
+use mathlib.Core.Path.{refl, ◌∙◌}
 use Prim.Native.Nat.{ℕ}
+use borrow.Author.Tests.{tests}
 use borrow.Author.Rules.{rules}
-use Rattle.frames.proofs.masks.is_clean.Invariants.{ok}
 use Rattle.frames.proofs.masks.is_clean.Goals as goal
 
-pub loop-i-init : goal.loop-i-init
-loop-i-init c = (search rules, every_none _)
-
-pub returns-then-not-byte_ok : goal.returns-then-not-byte_ok
-unfolding is_clean
-returns-then-not-byte_ok c =
-    sym (every_fails (ok c.args.kind c.args.b) step_bytes c.loop-i.i (search rules) (said_no _ _ c.byte_ok.ensures c.if-not-byte_ok.true))
-
-pub loop-i-preserved : goal.loop-i-preserved
-loop-i-preserved c =
-    (search rules, every_more (ok c.args.kind c.args.b) _ c.loop-i.invariant.1 (said_yes _ _ c.byte_ok.ensures c.if-not-byte_ok.false))
-
 pub returns : goal.returns
-unfolding is_clean
+unfolding is_clean every
 returns c =
-    let e : c.loop-i.i ≡ step_bytes = omega arith in
-    sym (ap (λ (k : ℕ). every k (ok c.args.kind c.args.b)) (sym e) ∙ c.loop-i.invariant.1)
+    let ok : ℕ → Bool = λ i. byte_ok c.args.kind i (byte_at c.args.b i) in
+    all_from_yields_List ok _ _ _ c.all.ensures.ran (YieldsList-from_range 0 step_bytes step_bytes refl refl) (λ x b q k. search (rules, tests))
+    ∙ every_listed ok (range_with_len 0 step_bytes) 0

@@ -1,20 +1,14 @@
 -- `server_log::rows::rows_ok` meets its contract. Assumes nothing.
 use Rattle.server_log.specs.declared.rows.Rows.{Rows}
-use Rattle.server_log.specs.Rows.{rows_of, same_row}
 use Rattle.server_log.proofs.Rowed.{rows_same}
-use Rattle.base.proofs.Bools.{said_no, said_yes}
-use mathlib.Core.Bool.{Bool, ◌&&◌}
-use mathlib.Core.Path.{ap, sym, ◌∙◌}
+use borrow.Author.Rules.{rules}
+use lib.Dec.{eqb}
+use lib.Pointwise.{pointwise}
+use mathlib.Core.Bool.{◌&&◌}
+use mathlib.Core.Path.{ap, ◌∙◌}
 use Rattle.server_log.proofs.rows.rows_ok.Goals as goal
-
-pub returns-then-not-same_row : goal.returns-then-not-same_row
-returns-then-not-same_row c =
-    let no = ap (λ (x : Rows). same_row c.args.r.whole x.whole) (sym c.rows_of-afresh.ensures) ∙ said_no _ _ c.same_row.ensures c.if-not-same_row.true in
-    ap (λ (x : Bool). x && same_row c.args.r.committed (rows_of c.args.g c.args.commit).committed) (sym no) ∙ rows_same c.args.r c.args.g c.args.commit
 
 pub returns : goal.returns
 returns c =
-    let yes =
-    ap (λ (x : Rows). same_row c.args.r.whole x.whole) (sym c.rows_of-afresh.ensures) ∙ said_yes _ _ c.same_row.ensures c.if-not-same_row.false in
-    c.same_row-2.ensures ∙ ap (λ (x : Rows). same_row c.args.r.committed x.committed) c.rows_of-afresh.ensures
-    ∙ ap (λ (x : Bool). x && same_row c.args.r.committed (rows_of c.args.g c.args.commit).committed) (sym yes) ∙ rows_same c.args.r c.args.g c.args.commit
+    c.eq.ensures ∙ ap (λ (x : Rows). pointwise eqb c.args.r.whole.values x.whole.values && pointwise eqb c.args.r.committed.values x.committed.values) c.rows_of-afresh.ensures
+    ∙ rows_same c.args.r c.args.g c.args.commit (search rules) (search rules)

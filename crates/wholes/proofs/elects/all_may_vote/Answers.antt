@@ -1,35 +1,27 @@
 -- `wholes::elects::all_may_vote` meets its contract. Assumes nothing.
-use Rattle.wholes.specs.Elects.{vote_ok, all_may_vote}
-use Rattle.cluster.specs.Servers.{server_at, server_count}
-use Rattle.base.proofs.Every.{every_none, every_more, every_fails}
-use Rattle.base.proofs.Bools.{said_no, said_yes}
+use Rattle.base.proofs.Facts.{mapped_long}
+use Rattle.base.proofs.Numbered.{every_first}
 use Rattle.base.specs.Numbers.{every}
+use Rattle.cluster.specs.Servers.{past_server, server_at}
+use Rattle.cluster.specs.declared.Server.{Server}
+use Rattle.std.proofs.lemmas.Iterator.{YieldsList-from_slice, YieldsList-from_take}
+use Rattle.std.proofs.lemmas.Iterator.Consumers.{YieldsList-from_enumerate}
+use Rattle.std.proofs.lemmas.Iterator.Search.{all_from_yields_List}
+use Rattle.wholes.specs.Elects.{all_may_vote, vote_ok}
+use lib.ListN.{length}
+use mathlib.Core.Path.{◌≡◌, ap, ◌∙◌}
 use native.Mathlib.Omega.{arith}
-use mathlib.Core.Path.{◌≡◌, ap, sym, ◌∙◌}
 use Prim.Native.Nat.{ℕ}
+use borrow.Author.Tests.{tests}
 use borrow.Author.Rules.{rules}
 use Rattle.wholes.proofs.elects.all_may_vote.Goals as goal
-
-pub loop-i-init : goal.loop-i-init
-loop-i-init c = (search rules, every_none _)
-
-pub offset_bounds-c-i : goal.offset_bounds-c-i
-offset_bounds-c-i c = search (rules, c.server_count-size.ensures)
-
-pub bounds-c-i : goal.bounds-c-i
-bounds-c-i c = omega (arith, c.server_count-size.ensures)
-
-pub returns-then-not-vote_ok : goal.returns-then-not-vote_ok
-unfolding all_may_vote
-returns-then-not-vote_ok c =
-    sym (every_fails _ (server_count c.args.c) c.loop-i.i (omega (arith, c.server_count-size.ensures)) (said_no _ _ c.vote_ok.ensures c.if-not-vote_ok.true))
-
-pub loop-i-preserved : goal.loop-i-preserved
-loop-i-preserved c =
-    (search rules, every_more _ _ c.loop-i.invariant.1 (said_yes _ _ c.vote_ok.ensures c.if-not-vote_ok.false))
 
 pub returns : goal.returns
 unfolding all_may_vote
 returns c =
-    let e : c.loop-i.i ≡ server_count c.args.c = omega (arith, c.server_count-size.ensures) in
-    sym (ap (λ (n : ℕ). every n (λ j. vote_ok c.args.s (server_at c.args.c j) c.args.set j)) (sym e) ∙ c.loop-i.invariant.1)
+    let xs = c.args.c.servers in
+    let n = c.server_count-size.result in
+    let ok = λ (i : ℕ) (t : Server). vote_ok c.args.s t c.args.set i in
+    let long : length xs ≡ 7 = search (rules, mapped_long) in
+    all_from_yields_List (λ p. ok p.0 p.1) _ _ _ c.all.ensures.ran (YieldsList-from_enumerate (YieldsList-from_take n (YieldsList-from_slice xs (cc)) (cc)) (cc)) (λ x b q k. search (rules, tests))
+    ∙ every_first ok n xs past_server (omega (arith, c.server_count-size.ensures)) ∙ ap (λ (k : ℕ). every k (λ i. ok i (server_at c.args.c i))) c.server_count-size.ensures

@@ -1,6 +1,0 @@
--- `histories::committed::entries` meets its contract. Assumes nothing.
-use Rattle.histories.proofs.Lent.{length_joined}
-use Rattle.histories.proofs.committed.entries.Goals as goal
-
-pub returns : goal.returns
-returns c = cc (length_joined _ _ _ _ _)

@@ -1,5 +1,0 @@
--- `loads::head_in` meets its contract. Assumes nothing.
-use Rattle.loads.proofs.head_in.Goals as goal
-
-pub returns : goal.returns
-returns c = cc

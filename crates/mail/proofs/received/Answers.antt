@@ -1,7 +1,0 @@
--- `mail::received` meets its contract. Assumes nothing.
-use Rattle.mail.specs.Mails.{with_queue}
-use mathlib.Core.Path.{ap}
-use Rattle.mail.proofs.received.Goals as goal
-
-pub returns : goal.returns
-returns c = ap (with_queue c.args.m) c.queued-p.ensures

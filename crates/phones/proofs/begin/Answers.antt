@@ -1,5 +1,0 @@
--- `phones::begin` meets its contract. Assumes nothing.
-use Rattle.phones.proofs.begin.Goals as goal
-
-pub returns : goal.returns
-returns c = rw c.fresh_reader.ensures

@@ -1,5 +1,0 @@
--- `saved::told_frame` meets its contract. Assumes nothing.
-use Rattle.saved.proofs.told_frame.Goals as goal
-
-pub returns : goal.returns
-returns c = cc
